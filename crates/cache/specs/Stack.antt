@@ -1,0 +1,40 @@
+-- The stack of one block size and the depth of a block in it (document 01, "The stack and the counts").
+-- Assumes nothing.
+use Prim.Native.Nat.{ℕ}
+use mathlib.Core.Bool.{cond}
+use mathlib.Core.List.{List, [], _∷_}
+use lib.Dec.{eqb, ltb}
+use lib.ListN.{length}
+use Rattle.lists.specs.Members.{mem, remove, above, keep}
+use Rattle.lists.specs.Runs.{answers}
+use Rattle.cache.specs.Cache.{setOf, Event, touch, Answer, hit, miss}
+
+-- the block goes to the top: blocks that were above it move down one, the others stay; under a new block all move down one
+abbrev pub stackStep : List ℕ → Event → List ℕ
+stackStep st (touch x) = x ∷ remove x st
+
+-- how many blocks above x in the stack have its set number at 2^s sets
+abbrev pub depth : ℕ → ℕ → List ℕ → ℕ
+depth s x st = length (keep (λ y. eqb (setOf s x) (setOf s y)) (above x st))
+
+-- where a block stands: at a depth, or it is new
+pub data Place : Type 0 where
+  at : ℕ → Place
+  new : Place
+
+abbrev pub stackPlace : ℕ → List ℕ → Event → Place
+stackPlace s st (touch x) = cond (mem x st) (at (depth s x st)) new
+
+-- the place at 2^s sets of each event's block, as the event comes
+abbrev pub places : ℕ → List Event → List Place
+places s es = answers stackStep (stackPlace s) [] es
+
+-- a hit in w ways exactly where the block is in the stack and its depth is below w
+abbrev pub verdict : ℕ → Place → Answer
+verdict w (at d) = cond (ltb d w) hit miss
+verdict w new = miss
+
+-- 1 where the block was found at depth d, else 0: what the count for d goes up by
+abbrev pub atDepth : ℕ → Place → ℕ
+atDepth d (at k) = cond (eqb d k) 1 0
+atDepth d new = 0

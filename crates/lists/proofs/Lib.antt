@@ -1,0 +1,5 @@
+pub mod Cases
+pub mod MemberLaws
+pub mod RunLaws
+pub mod SumLaws
+pub mod TestLaws

@@ -1,0 +1,87 @@
+-- Laws of `mem`, `remove`, `above` and `keep`, in that order; then of `take` beside them.
+-- Assumes nothing.
+use Prim.Native.Nat.{ℕ, zero, suc, _+_, _≤_, _<_}
+use mathlib.Core.Path.{_≡_, refl, sym, ap, _∙_}
+use mathlib.Core.Bool.{Bool, true, false, cond, _&&_, _||_, and-false, true≢false, false≢true}
+use mathlib.Core.List.{List, [], _∷_}
+use native.Mathlib.Omega.{arith}
+use lib.Dec.{eqb, ltb, leb, leb·zero, leb·suc-zero, leb·suc-suc}
+use lib.ListN.{take, drop, length, getD}
+use lib.Seq.{take-nil}
+use borrow.Author.Tests.{eqb-true, eqb-false, eq-eqb, ne-eqb, lt-ltb, le-ltb}
+use Rattle.lists.specs.Members.{mem, remove, above, keep}
+use Rattle.lists.proofs.Cases.{cases}
+
+-- `simp` does not read 1 as `suc 0`, so this instance has a name
+pub ltb·zero-suc : (n : ℕ) → ltb 0 (suc n) ≡ true
+ltb·zero-suc n = leb·suc-suc 0 n ∙ leb·zero n
+
+-- ---- a number goes to the front
+
+pub mem-front : (x y : ℕ) (l : List ℕ) → mem y (x ∷ remove x l) ≡ eqb y x || mem y l
+mem-front x y [] = refl
+mem-front x y (z ∷ l) =
+    let ih = mem-front x y l in
+    cases (eqb x z)
+    (λ e. rw (← eqb-true x z e) (cases (eqb y x) (λ f. simp (f, eq-eqb x x refl)) (λ f. simp (f, eq-eqb x x refl))))
+    (λ e. cases (eqb y x) (λ f. simp f) (λ f. cases (eqb y z) (λ g. simp (e, f, g)) (λ g. simp (e, f, g) (rw f at ih))))
+
+pub length-front : (x : ℕ) (l : List ℕ) → length (x ∷ remove x l) ≡ cond (mem x l) (length l) (suc (length l))
+length-front x [] = refl
+length-front x (y ∷ l) =
+    let ih = length-front x l in
+    cases (eqb x y)
+    (λ e. simp e)
+    (λ e. cases (mem x l) (λ f. simp (e, f) (ap suc (rw f at ih))) (λ f. simp (e, f) (ap suc (rw f at ih))))
+
+-- ---- those that pass a test
+
+pub keep-remove : (p : ℕ → Bool) (x : ℕ) → p x ≡ true → (l : List ℕ) → keep p (remove x l) ≡ remove x (keep p l)
+keep-remove p x h [] = refl
+keep-remove p x h (y ∷ ys) =
+    let ih = keep-remove p x h ys in
+    cases (eqb x y)
+    (λ e. rw (← eqb-true x y e) (simp (h, eq-eqb x x refl)))
+    (λ e. cases (p y) (λ f. simp (e, f, ih)) (λ f. simp (e, f, ih)))
+
+pub keep-remove-other : (p : ℕ → Bool) (x : ℕ) → p x ≡ false → (l : List ℕ) → keep p (remove x l) ≡ keep p l
+keep-remove-other p x h [] = refl
+keep-remove-other p x h (y ∷ ys) =
+    let ih = keep-remove-other p x h ys in
+    cases (eqb x y)
+    (λ e. rw (← eqb-true x y e) (simp (h, eq-eqb x x refl)))
+    (λ e. simp (e, ih))
+
+-- a stricter test keeps no more
+pub length-keep-le : (p q : ℕ → Bool) → ((y : ℕ) → p y ≡ true → q y ≡ true) → (l : List ℕ) → length (keep p l) ≤ length (keep q l)
+length-keep-le p q h [] = omega arith
+length-keep-le p q h (y ∷ l) =
+    let ih = length-keep-le p q h l in
+    cases (p y)
+    (λ e. simp (e, h y e) (omega arith))
+    (λ e. cases (q y) (λ f. simp (e, f) (omega arith)) (λ f. simp (e, f) ih))
+
+-- x is among the first w that pass a test where it is in the list, and fewer than w that pass stand above it
+pub mem-take-keep : (p : ℕ → Bool) (x : ℕ) → p x ≡ true → (w : ℕ) (l : List ℕ)
+    → mem x (take w (keep p l)) ≡ mem x l && ltb (length (keep p (above x l))) w
+mem-take-keep p x h w [] = rw take-nil
+mem-take-keep p x h zero (y ∷ ys) = simp (leb·suc-zero, and-false)
+mem-take-keep p x h (suc w) (y ∷ ys) =
+    cases (eqb x y)
+    (λ e. rw (← eqb-true x y e) (simp (h, eq-eqb x x refl, ltb·zero-suc)))
+    (λ e. cases (p y)
+    (λ f. simp (e, f, leb·suc-suc, mem-take-keep p x h w ys))
+    (λ f. simp (e, f, mem-take-keep p x h (suc w) ys)))
+
+-- where x is the first of those that pass p, it is the first of those that pass a stricter q
+pub first-keep : (p q : ℕ → Bool) (x : ℕ) → ((y : ℕ) → q y ≡ true → p y ≡ true) → q x ≡ true
+    → (l : List ℕ) → mem x (take 1 (keep p l)) ≡ true → (r : List ℕ) × (keep q l ≡ x ∷ r)
+first-keep p q x h hx [] m = absurd (false≢true m)
+first-keep p q x h hx (y ∷ l) m =
+    cases (eqb x y)
+    (λ e. let g = eqb-true x y e in (keep q l, rw (← g) (simp hx)))
+    (λ e. cases (p y)
+    (λ f. absurd (false≢true (simp (f, e) at m)))
+    (λ f. cases (q y)
+    (λ g. absurd (true≢false (sym (h y g) ∙ f)))
+    (λ g. simp g (first-keep p q x h hx l (simp f at m)))))

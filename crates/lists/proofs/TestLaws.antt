@@ -1,0 +1,75 @@
+-- Laws of `firstOf`, `anyTo` and `allLe`.
+-- Assumes nothing.
+use Prim.Native.Nat.{ℕ, zero, suc, _+_, _≤_, _<_}
+use mathlib.Core.Path.{_≡_, refl, sym, ap, _∙_}
+use mathlib.Core.Bool.{Bool, true, false, cond, not, _&&_, _||_, true≢false, false≢true, or-true, and-false}
+use mathlib.Core.List.{List, [], _∷_}
+use native.Mathlib.Numerals.{add-one}
+use native.Mathlib.Omega.{arith}
+use lib.Dec.{leb, eqb}
+use borrow.Author.Tests.{le-leb, lt-leb, leb-true, leb-false, eqb-true, eqb-false, not-false}
+use Rattle.lists.specs.Tests.{firstOf, anyTo, allLe, All≤}
+use Rattle.lists.proofs.Cases.{cases}
+
+-- ---- the first that holds
+
+-- no test held, nor did a later one
+pub none-first : (t : Bool) (n m : ℕ) → cond t (suc n) m ≡ 0 → (t ≡ false) × (m ≡ 0)
+none-first true n m e = absurd (omega arith)
+none-first false n m e = (refl, e)
+
+-- ---- whether some holds
+
+pub any-none : (p : ℕ → Bool) → anyTo 0 p ≡ false
+unfolding anyTo
+any-none p = refl
+
+pub any-more : (k : ℕ) (p : ℕ → Bool) → anyTo k p ≡ false → p k ≡ false → anyTo (k + 1) p ≡ false
+unfolding anyTo
+any-more k p h e = rw (add-one k) (simp (h, e))
+
+pub any-yes : (n k : ℕ) (p : ℕ → Bool) → k < n → p k ≡ true → anyTo n p ≡ true
+unfolding anyTo
+any-yes zero k p h e = absurd (omega arith)
+any-yes (suc n) k p h e =
+    cases (eqb k n)
+    (λ q. let r = eqb-true k n q in rw (← r) (simp (e, or-true)))
+    (λ q. let r : k ≡ n → ⊥ = eqb-false k n q in simp (any-yes n k p (omega (arith, r)) e))
+
+pub any-not : (n : ℕ) (p : ℕ → Bool) → anyTo n p ≡ false → (k : ℕ) → k < n → p k ≡ false
+any-not n p h k l = cases (p k) (λ e. absurd (true≢false (sym (any-yes n k p l e) ∙ h))) (λ e. e)
+
+pub any-same : (n : ℕ) (p q : ℕ → Bool) → ((k : ℕ) → k < n → p k ≡ q k) → anyTo n p ≡ anyTo n q
+unfolding anyTo
+any-same zero p q h = refl
+any-same (suc n) p q h = simp (any-same n p q (λ k l. h k (omega arith)), h n (omega arith))
+
+pub any-none-of : (n : ℕ) (p : ℕ → Bool) → ((k : ℕ) → k < n → p k ≡ false) → anyTo n p ≡ false
+unfolding anyTo
+any-none-of zero p h = refl
+any-none-of (suc n) p h = simp (any-none-of n p (λ k l. h k (omega arith)), h n (omega arith))
+
+-- the first decides where each is no more than the first
+pub any-first : (n : ℕ) (p : ℕ → Bool) → 0 < n → ((k : ℕ) → k < n → p k ≡ true → p 0 ≡ true) → anyTo n p ≡ p 0
+any-first n p pos h =
+    cases (p 0)
+    (λ e. any-yes n 0 p pos e ∙ sym e)
+    (λ e. any-none-of n p (λ k l. cases (p k) (λ f. absurd (true≢false (sym (h k l f) ∙ e))) (λ f. f)) ∙ sym e)
+
+-- ---- whether all do
+
+pub all-yes : (l : List (ℕ × ℕ)) → All≤ l → allLe l ≡ true
+unfolding allLe
+all-yes [] h = refl
+all-yes (p ∷ l) h = simp (le-leb (p .0) (p .1) (h .0), all-yes l (h .1))
+
+pub all-facts : (l : List (ℕ × ℕ)) → allLe l ≡ true → All≤ l
+unfolding allLe
+all-facts [] h = tt
+all-facts (p ∷ l) h =
+    cases (leb (p .0) (p .1))
+    (λ e. (leb-true (p .0) (p .1) e, all-facts l (simp e at h)))
+    (λ e. absurd (false≢true (simp e at h)))
+
+pub all-not : (l : List (ℕ × ℕ)) → (All≤ l → ⊥) → allLe l ≡ false
+all-not l h = cases (allLe l) (λ e. absurd (h (all-facts l e))) (λ e. e)

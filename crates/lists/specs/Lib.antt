@@ -1,0 +1,4 @@
+pub mod Members
+pub mod Runs
+pub mod Sums
+pub mod Tests

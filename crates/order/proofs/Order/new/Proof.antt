@@ -1,0 +1,21 @@
+-- `Order::new` meets its contract: the test picks the case, of the answer and of the order alike. Assumes nothing.
+use borrow.Author.Needs.{needs}
+use mathlib.Core.Path.{_≡_, sym, _∙_}
+use Rattle.order.proofs.Order.new.Statement.{statement}
+use Rattle.order.proofs.Order.new.Tie as tie
+
+is-within-requires : tie.Need-is-within-requires
+is-within-requires c κs = search needs
+
+returns : tie.Need-returns
+returns c =
+    let fits = sym (c .before .is-within .ensures) ∙ c .if1 .taken in
+    record { answer = simp fits; order = simp fits }
+
+returns-2 : tie.Need-returns-2
+returns-2 c =
+    let fails = sym (c .before .is-within .ensures) ∙ c .if1 .left in
+    record { answer = simp fails; order = simp fails }
+
+pub new-spec : {M : Type 1} → statement M
+new-spec = tie.close (tie.spec is-within-requires returns returns-2)

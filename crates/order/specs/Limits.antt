@@ -1,0 +1,35 @@
+-- The limits of an order's numbers (document 01, "The order's numbers"), and what its constructor answers.
+-- Assumes nothing.
+use Prim.Native.Nat.{ℕ, _-_, _+_}
+use mathlib.Core.Path.{_≡_}
+use mathlib.Core.Bool.{Bool, cond, not}
+use mathlib.Core.List.{List, [], _∷_}
+use Rattle.lists.specs.Tests.{firstOf, allLe}
+use Rattle.units.specs.Refusals.{outsideLimits}
+use Rattle.order.specs.declared.Order.{Order}
+use Rattle.order.specs.declared.Checked.{Checked}
+
+-- at most 8 block sizes: bmin to bmax
+abbrev pub sizes : Order → ℕ
+sizes o = o .bmax .0 - o .bmin .0 + 1
+
+-- in each pair the first is at most the second
+abbrev pub limits : Order → List (ℕ × ℕ)
+limits o =
+    (2, o .bmin .0) ∷ (o .bmax .0, 12) ∷ (o .bmin .0, o .bmax .0) ∷ (sizes o, 8)
+    ∷ (o .smax, 14)
+    ∷ (1, o .ways) ∷ (o .ways, 16)
+    ∷ (1, o .room) ∷ (o .room, 1048576)
+    ∷ (1, o .refs) ∷ (o .refs, 4000000000)
+    ∷ []
+
+abbrev pub within : Order → Bool
+within o = allLe (limits o)
+
+abbrev pub zeroOrder : Order
+zeroOrder = record { bmin = record { 0 = 0 }; bmax = record { 0 = 0 }; smax = 0; ways = 0; room = 0; refs = 0 }
+
+-- the constructor's answer for the order o: o itself within its limits, else 1 and zeros
+pub record Checks (o : Order) (r : Checked) : Type 0 where
+  pub answer : r .answer ≡ firstOf ((not (within o), outsideLimits) ∷ [])
+  pub order : r .order ≡ cond (within o) o zeroOrder

@@ -1,0 +1,129 @@
+// The order: its numbers, their limits, and a constructor that checks them (document 01, "The order's
+// numbers").
+use units::ByteExp;
+use units::refusal;
+ghost use mathlib.Core.Path.{_≡_};
+ghost use Rattle.order.specs.Limits.{within, Checks};
+
+// What is asked for: block sizes of 2^bmin to 2^bmax bytes, 2^0 to 2^smax sets, 1 to `ways` ways; `room`
+// entries in each stack, and at most `refs` references.
+pub struct Order {
+    pub bmin: ByteExp,
+    pub bmax: ByteExp,
+    pub smax: u32,
+    pub ways: u32,
+    pub room: u32,
+    pub refs: u32,
+}
+
+// An order beside the answer number: zeros where the number is not 0.
+pub struct Checked {
+    pub answer: u32,
+    pub order: Order,
+}
+
+impl Order {
+    // "bmin and bmax from 2 to 12"
+    pub const B_LEAST: u32 = 2;
+
+    pub const B_MOST: u32 = 12;
+
+    // "at most 8 block sizes"
+    pub const SIZES_MOST: u32 = 8;
+
+    // "smax from 0 to 14"
+    pub const S_MOST: u32 = 14;
+
+    // "ways from 1 to 16"
+    pub const WAYS_LEAST: u32 = 1;
+
+    pub const WAYS_MOST: u32 = 16;
+
+    // "room, entries per stack, from 1 to 1,048,576"
+    pub const ROOM_LEAST: u32 = 1;
+
+    pub const ROOM_MOST: u32 = 1048576;
+
+    // "refs, the ceiling on references, from 1 to 4,000,000,000"
+    pub const REFS_LEAST: u32 = 1;
+
+    pub const REFS_MOST: u32 = 4000000000;
+
+    // Every number is within its limits.
+    pub fn is_within(self) -> bool
+        ensures { λ r. ⌜ r ≡ within self ⌝ }
+    {
+        let bmin = self.bmin.0;
+        let bmax = self.bmax.0;
+        let smax = self.smax;
+        let ways = self.ways;
+        let room = self.room;
+        let refs = self.refs;
+        if bmin < Order::B_LEAST {
+            return false;
+        }
+        if bmax > Order::B_MOST {
+            return false;
+        }
+        if bmin > bmax {
+            return false;
+        }
+        if bmax - bmin >= Order::SIZES_MOST {
+            return false;
+        }
+        if smax > Order::S_MOST {
+            return false;
+        }
+        if ways < Order::WAYS_LEAST {
+            return false;
+        }
+        if ways > Order::WAYS_MOST {
+            return false;
+        }
+        if room < Order::ROOM_LEAST {
+            return false;
+        }
+        if room > Order::ROOM_MOST {
+            return false;
+        }
+        if refs < Order::REFS_LEAST {
+            return false;
+        }
+        if refs > Order::REFS_MOST {
+            return false;
+        }
+        true
+    }
+
+    // The order of these numbers, where each is within its limits.
+    pub fn new(bmin: ByteExp, bmax: ByteExp, smax: u32, ways: u32, room: u32, refs: u32) -> Checked
+        ensures { λ r. ⌜ Checks (record { bmin = bmin; bmax = bmax; smax = smax; ways = ways; room = room; refs = refs }) r ⌝ }
+    {
+        let order = Order {
+            bmin,
+            bmax,
+            smax,
+            ways,
+            room,
+            refs,
+        };
+        if order.is_within() {
+            Checked {
+                answer: refusal::DONE,
+                order,
+            }
+        } else {
+            Checked {
+                answer: refusal::OUTSIDE_LIMITS,
+                order: Order {
+                    bmin: ByteExp(0),
+                    bmax: ByteExp(0),
+                    smax: 0,
+                    ways: 0,
+                    room: 0,
+                    refs: 0,
+                },
+            }
+        }
+    }
+}

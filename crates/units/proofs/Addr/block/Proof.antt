@@ -1,0 +1,23 @@
+-- `Addr::block` meets its contract: a shift divides by the power, and shifts by 32 places and more leave nothing. Assumes nothing.
+use borrow.Author.Needs.{needs}
+use mathlib.Core.Path.{_≡_, refl, sym}
+use Prim.Native.Nat.{_<_}
+use native.Mathlib.Omega.{arith}
+use Rattle.cache.specs.Cache.{blockOf}
+use Rattle.units.proofs.BitLaws.{shifted-out}
+use Rattle.units.proofs.Addr.block.Statement.{statement}
+use Rattle.units.proofs.Addr.block.Tie as tie
+
+shr-t7 : tie.Need-shr-t7
+shr-t7 c = search needs
+
+returns : tie.Need-returns
+unfolding blockOf
+returns c = refl
+
+returns-2 : tie.Need-returns-2
+unfolding blockOf
+returns-2 c = let a = c .before .args in sym (shifted-out (a .self .0) (a .b .0) (omega arith) (omega arith))
+
+pub block-spec : {M : Type 1} → statement M
+block-spec = tie.close (tie.spec shr-t7 returns returns-2)

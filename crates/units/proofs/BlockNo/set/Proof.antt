@@ -1,0 +1,27 @@
+-- `BlockNo::set` meets its contract: a one shifted by s places is 2^s, and modulo 2^32 and more a number of 32 bits stays. Assumes nothing.
+use borrow.Author.Needs.{needs}
+use mathlib.Core.Path.{_≡_, refl, sym, ap}
+use Prim.Native.Nat.{ℕ, _<_, _%_}
+use native.Mathlib.Omega.{arith}
+use lib.Pow.{pow-pos}
+use Rattle.cache.specs.Cache.{setOf}
+use Rattle.units.proofs.BitLaws.{kept-whole, bit}
+use Rattle.units.proofs.BlockNo.set.Statement.{statement}
+use Rattle.units.proofs.BlockNo.set.Tie as tie
+
+shl-t6 : tie.Need-shl-t6
+shl-t6 c = search needs
+
+rem-t7 : tie.Need-rem-t7
+rem-t7 c = let s = c .before .args .s in rw (bit s (c .if1 .taken)) (pow-pos s)
+
+returns : tie.Need-returns
+unfolding setOf
+returns c = let a = c .before .args in ap (λ (n : ℕ). a .self .0 % n) (bit (a .s) (c .if1 .taken))
+
+returns-2 : tie.Need-returns-2
+unfolding setOf
+returns-2 c = let a = c .before .args in sym (kept-whole (a .self .0) (a .s) (omega arith) (omega arith))
+
+pub set-spec : {M : Type 1} → statement M
+set-spec = tie.close (tie.spec shl-t6 rem-t7 returns returns-2)
