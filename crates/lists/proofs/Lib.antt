@@ -1,5 +1,7 @@
 pub mod Cases
 pub mod MemberLaws
+pub mod PartLaws
+pub mod RaiseLaws
 pub mod RunLaws
 pub mod SumLaws
 pub mod TestLaws

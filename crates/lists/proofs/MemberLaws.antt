@@ -85,3 +85,38 @@ first-keep p q x h hx (y ∷ l) m =
     (λ f. cases (q y)
     (λ g. absurd (true≢false (sym (h y g) ∙ f)))
     (λ g. simp g (first-keep p q x h hx l (simp f at m)))))
+
+-- ---- a walk down a list, i entries passed
+
+pub length-keep : (p : ℕ → Bool) (l : List ℕ) → length (keep p l) ≤ length l
+length-keep p [] = omega arith
+length-keep p (y ∷ l) = cases (p y) (λ e. simp e (omega (arith, length-keep p l))) (λ e. simp e (omega (arith, length-keep p l)))
+
+pub absent-above : (x : ℕ) (l : List ℕ) → mem x l ≡ false → above x l ≡ l
+absent-above x [] h = refl
+absent-above x (y ∷ l) h =
+    cases (eqb x y) (λ e. absurd (true≢false (simp e at h))) (λ e. simp e (ap (λ (t : List ℕ). y ∷ t) (absent-above x l (simp e at h))))
+
+pub found-above : (x i : ℕ) (l : List ℕ) → i < length l → getD l i 0 ≡ x → mem x (take i l) ≡ false → above x l ≡ take i l
+found-above x i [] h e m = absurd (omega arith)
+found-above x zero (y ∷ l) h e m = simp (eq-eqb x y (sym e))
+found-above x (suc i) (y ∷ l) h e m =
+    cases (eqb x y)
+    (λ f. absurd (true≢false (simp f at m)))
+    (λ f. simp f (ap (λ (t : List ℕ). y ∷ t) (found-above x i l (omega arith) e (simp f at m))))
+
+pub absent-suc : (x i : ℕ) (l : List ℕ) → i < length l → mem x (take i l) ≡ false → eqb x (getD l i 0) ≡ false → mem x (take (suc i) l) ≡ false
+absent-suc x i [] h m e = absurd (omega arith)
+absent-suc x zero (y ∷ l) h m e = simp e
+absent-suc x (suc i) (y ∷ l) h m e =
+    cases (eqb x y) (λ f. absurd (true≢false (simp f at m))) (λ f. simp f (absent-suc x i l (omega arith) (simp f at m) e))
+
+pub count-suc : (p : ℕ → Bool) (i : ℕ) (l : List ℕ) → i < length l
+    → length (keep p (take (suc i) l)) ≡ cond (p (getD l i 0)) (suc (length (keep p (take i l)))) (length (keep p (take i l)))
+count-suc p i [] h = absurd (omega arith)
+count-suc p zero (y ∷ l) h = cases (p y) (λ e. simp e) (λ e. simp e)
+count-suc p (suc i) (y ∷ l) h =
+    let ih = count-suc p i l (omega arith) in
+    cases (p y)
+    (λ e. simp e (ap suc ih ∙ cases (p (getD l i 0)) (λ f. simp f) (λ f. simp f)))
+    (λ e. simp e ih)

@@ -1,7 +1,7 @@
 -- Laws of `firstOf`, `anyTo` and `allLe`.
 -- Assumes nothing.
 use Prim.Native.Nat.{ℕ, zero, suc, _+_, _≤_, _<_}
-use mathlib.Core.Path.{_≡_, refl, sym, ap, _∙_}
+use mathlib.Core.Path.{_≡_, refl, sym, ap, _∙_, subst}
 use mathlib.Core.Bool.{Bool, true, false, cond, not, _&&_, _||_, true≢false, false≢true, or-true, and-false}
 use mathlib.Core.List.{List, [], _∷_}
 use native.Mathlib.Numerals.{add-one}
@@ -48,6 +48,10 @@ pub any-none-of : (n : ℕ) (p : ℕ → Bool) → ((k : ℕ) → k < n → p k 
 unfolding anyTo
 any-none-of zero p h = refl
 any-none-of (suc n) p h = simp (any-none-of n p (λ k l. h k (omega arith)), h n (omega arith))
+
+-- none of all n, where a loop has passed k = n of them
+pub any-ended : (n k : ℕ) (p : ℕ → Bool) → k ≤ n → n ≤ k → anyTo k p ≡ false → anyTo n p ≡ false
+any-ended n k p h g e = let q : k ≡ n = omega arith in subst (λ (m : ℕ). anyTo m p ≡ false) q e
 
 -- the first decides where each is no more than the first
 pub any-first : (n : ℕ) (p : ℕ → Bool) → 0 < n → ((k : ℕ) → k < n → p k ≡ true → p 0 ≡ true) → anyTo n p ≡ p 0

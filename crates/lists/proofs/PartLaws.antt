@@ -1,0 +1,166 @@
+-- Laws of `writeAt`, `writtenRows` and `setLengths`: what is read back, and what stays.
+-- Assumes nothing.
+use Prim.Native.Nat.{ℕ, zero, suc, _+_, _-_, _*_, _≤_, _<_}
+use mathlib.Core.Path.{_≡_, refl, sym, ap, _∙_, subst}
+use mathlib.Core.Bool.{Bool, true, false, cond}
+use mathlib.Core.List.{List, [], _∷_, _++_}
+use native.Mathlib.Nat.{suc-mul, mul-le-mul-right, zero-add, suc-add}
+use native.Mathlib.Numerals.{add-one}
+use native.Mathlib.Omega.{arith}
+use lib.Dec.{eqb, ltb}
+use lib.ListN.{length, take, drop, getD, set, length-append, length-take, length-drop, length-set, List·getD-append}
+use lib.Seq.{take-nil, drop-nil, length-take-le, take-append-seam, take-append-le, take-take, drop-append-add, drop-at, drop-drop, take-add, getD-take, getD-drop, getD-set-same, getD-set-other}
+use borrow.Author.Tests.{eqb-true, eqb-false, ltb-true, ltb-false}
+use Rattle.lists.specs.Tables.{writeAt, writtenRows, setLengths}
+use Rattle.lists.proofs.Cases.{cases}
+
+-- no fewer rows take no less
+pub rows-le : (k n r : ℕ) → k ≤ n → k * r ≤ n * r
+rows-le k n r h = mul-le-mul-right r h
+
+-- row k of n rows ends within them
+pub row-in : (k n r : ℕ) → k < n → k * r + r ≤ n * r
+row-in k n r h = omega (arith, suc-mul k r, rows-le (suc k) n r h)
+
+-- ---- a list written over a table
+
+pub length-write : (base : ℕ) (p l : List ℕ) → base + length p ≤ length l → length (writeAt base p l) ≡ length l
+unfolding writeAt
+length-write base p l h = simp (length-append, length-take, length-drop) (omega arith)
+
+drop-over : (p l : List ℕ) (n : ℕ) → length p ≤ n → drop n (p ++ drop (length p) l) ≡ drop n l
+drop-over p l n h =
+    let e : length p + (n - length p) ≡ n = omega arith in
+    subst (λ (m : ℕ). drop m (p ++ drop (length p) l) ≡ drop m l) e
+    (drop-append-add p (drop (length p) l) (n - length p) ∙ drop-drop (n - length p) (length p) l)
+
+drop-base : (base : ℕ) (p l : List ℕ) → base ≤ length l → drop base (writeAt base p l) ≡ p ++ drop (length p) (drop base l)
+unfolding writeAt
+drop-base base p l h = drop-at (take base l) (p ++ drop (length p) (drop base l)) base (length-take-le base l h)
+
+pub drop-write : (base : ℕ) (p l : List ℕ) (n : ℕ) → base ≤ length l → length p ≤ n → drop (base + n) (writeAt base p l) ≡ drop (base + n) l
+drop-write base p l n h f =
+    sym (drop-drop n base (writeAt base p l)) ∙ ap (drop n) (drop-base base p l h) ∙ drop-over p (drop base l) n f ∙ drop-drop n base l
+
+take-drop : (u i : ℕ) (l : List ℕ) → take u (drop i l) ≡ drop i (take (i + u) l)
+take-drop u zero l = rw zero-add
+take-drop u (suc i) [] = simp (take-nil, drop-nil)
+take-drop u (suc i) (x ∷ l) = rw suc-add (take-drop u i l)
+
+pub read-here : (base : ℕ) (p l : List ℕ) → base ≤ length l → take (length p) (drop base (writeAt base p l)) ≡ p
+read-here base p l h = ap (take (length p)) (drop-base base p l h) ∙ take-append-seam p (drop (length p) (drop base l))
+
+pub read-before : (base : ℕ) (p l : List ℕ) (i u : ℕ) → base ≤ length l → i + u ≤ base → take u (drop i (writeAt base p l)) ≡ take u (drop i l)
+unfolding writeAt
+read-before base p l i u h f =
+    take-drop u i (writeAt base p l)
+    ∙ ap (drop i) (take-append-le (i + u) (take base l) (p ++ drop (length p) (drop base l)) (rw (length-take-le base l h) f) ∙ take-take (i + u) base l f)
+    ∙ sym (take-drop u i l)
+
+pub write-before : (base : ℕ) (p l : List ℕ) (i : ℕ) → base ≤ length l → i < base → getD (writeAt base p l) i 0 ≡ getD l i 0
+unfolding writeAt
+write-before base p l i h f =
+    List·getD-append (take base l) (p ++ drop (length p) (drop base l)) 0 i (rw (length-take-le base l h) f) ∙ getD-take base l i 0 f
+
+pub write-past : (base : ℕ) (p l : List ℕ) (i : ℕ) → base ≤ length l → base + length p ≤ i → getD (writeAt base p l) i 0 ≡ getD l i 0
+write-past base p l i h f =
+    let e : base + length p + (i - (base + length p)) ≡ i = omega arith in
+    ap (λ (n : ℕ). getD (writeAt base p l) n 0) (sym e)
+    ∙ sym (getD-drop (base + length p) (writeAt base p l) (i - (base + length p)) 0)
+    ∙ ap (λ (q : List ℕ). getD q (i - (base + length p)) 0) (drop-write base p l (length p) h (omega arith))
+    ∙ getD-drop (base + length p) l (i - (base + length p)) 0
+    ∙ ap (λ (n : ℕ). getD l n 0) e
+
+-- ---- rows written over a table: n rows of `room` entries, none longer
+
+module _ (room : ℕ) (top : ℕ → List ℕ) (l : List ℕ) (n : ℕ) (long : n * room ≤ length l) (fits : (k : ℕ) → k < n → length (top k) ≤ room) where
+  pub length-rows : (k : ℕ) → k ≤ n → length (writtenRows room top k l) ≡ length l
+  unfolding writtenRows
+  length-rows zero h = refl
+  length-rows (suc k) h =
+      let ih = length-rows k (omega arith) in
+      length-write (k * room) (top k) (writtenRows room top k l) (omega (arith, row-in k n room h, fits k h)) ∙ ih
+
+  start-in : (k : ℕ) → k < n → k * room ≤ length (writtenRows room top k l)
+  start-in k h = omega (arith, row-in k n room h, length-rows k (omega arith))
+
+  pub drop-rows : (k : ℕ) → k ≤ n → drop (k * room) (writtenRows room top k l) ≡ drop (k * room) l
+  unfolding writtenRows
+  drop-rows zero h = refl
+  drop-rows (suc k) h =
+      rw (suc-mul k room)
+      (drop-write (k * room) (top k) (writtenRows room top k l) room (start-in k h) (fits k h)
+      ∙ sym (drop-drop room (k * room) (writtenRows room top k l))
+      ∙ ap (drop room) (drop-rows k (omega arith))
+      ∙ drop-drop room (k * room) l)
+
+  pub row-after : (m k : ℕ) → m ≤ n → k < m → take (length (top k)) (drop (k * room) (writtenRows room top m l)) ≡ top k
+  unfolding writtenRows
+  row-after zero k h f = absurd (omega arith)
+  row-after (suc m) k h f =
+      cases (eqb k m)
+      (λ e. rw (eqb-true k m e) (read-here (m * room) (top m) (writtenRows room top m l) (start-in m h)))
+      (λ e.
+      let q : k ≡ m → ⊥ = eqb-false k m e in
+      let g : k < m = omega (arith, q) in
+      read-before (m * room) (top m) (writtenRows room top m l) (k * room) (length (top k)) (start-in m h) (omega (arith, row-in k m room g, fits k (omega arith)))
+      ∙ row-after m k (omega arith) g)
+
+  pub entry-after : (m k j : ℕ) → m ≤ n → k < n → length (top k) ≤ j → j < room → getD (writtenRows room top m l) (k * room + j) 0 ≡ getD l (k * room + j) 0
+  unfolding writtenRows
+  entry-after zero k j h f g u = refl
+  entry-after (suc m) k j h f g u =
+      cases (ltb k m)
+      (λ e.
+      write-before (m * room) (top m) (writtenRows room top m l) (k * room + j) (start-in m h) (omega (arith, row-in k m room (ltb-true k m e)))
+      ∙ entry-after m k j (omega arith) f g u)
+      (λ e.
+      write-past (m * room) (top m) (writtenRows room top m l) (k * room + j) (start-in m h) (beyond (ltb-false k m e))
+      ∙ entry-after m k j (omega arith) f g u)
+    where
+      beyond : m ≤ k → m * room + length (top m) ≤ k * room + j
+      beyond e =
+          cases (eqb k m)
+          (λ q. rw (← eqb-true k m q) (omega arith))
+          (λ q. let r : k ≡ m → ⊥ = eqb-false k m q in omega (arith, row-in m k room (omega (arith, r)), fits m h))
+
+-- the start and a turn of a loop over the rows
+module _ (room : ℕ) (top : ℕ → List ℕ) (l : List ℕ) where
+  pub rows-none : l ≡ writtenRows room top 0 l
+  unfolding writtenRows
+  rows-none = refl
+
+  pub rows-more : (k : ℕ) (t t′ : List ℕ) → t ≡ writtenRows room top k l → t′ ≡ writeAt (k * room) (top k) t → t′ ≡ writtenRows room top (k + 1) l
+  unfolding writtenRows
+  rows-more k t t′ e h = rw (add-one k) (h ∙ ap (writeAt (k * room) (top k)) e)
+
+-- ---- lengths set in a list
+
+module _ (top : ℕ → List ℕ) (l : List ℕ) where
+  pub lengths-none : l ≡ setLengths top 0 l
+  unfolding setLengths
+  lengths-none = refl
+
+  pub lengths-more : (k n : ℕ) → n ≡ length (top k) → set (setLengths top k l) k n ≡ setLengths top (k + 1) l
+  unfolding setLengths
+  lengths-more k n e = rw (add-one k) (ap (set (setLengths top k l) k) e)
+
+  pub lengths-past : (k j : ℕ) → k ≤ j → getD (setLengths top k l) j 0 ≡ getD l j 0
+  unfolding setLengths
+  lengths-past zero j h = refl
+  lengths-past (suc k) j h = getD-set-other (setLengths top k l) k j (length (top k)) 0 (λ e. omega arith) ∙ lengths-past k j (omega arith)
+
+pub length-setLengths : (top : ℕ → List ℕ) (n : ℕ) (l : List ℕ) → length (setLengths top n l) ≡ length l
+unfolding setLengths
+length-setLengths top zero l = refl
+length-setLengths top (suc n) l = length-set (setLengths top n l) n (length (top n)) ∙ length-setLengths top n l
+
+pub setLengths-at : (top : ℕ → List ℕ) (n k : ℕ) (l : List ℕ) → n ≤ length l → k < n → getD (setLengths top n l) k 0 ≡ length (top k)
+unfolding setLengths
+setLengths-at top zero k l h f = absurd (omega arith)
+setLengths-at top (suc n) k l h f =
+    cases (eqb k n)
+    (λ e. rw (eqb-true k n e) (getD-set-same (setLengths top n l) n (length (top n)) 0 (omega (arith, length-setLengths top n l))))
+    (λ e.
+    let q : k ≡ n → ⊥ = eqb-false k n e in
+    getD-set-other (setLengths top n l) n k (length (top n)) 0 q ∙ setLengths-at top n k l (omega arith) (omega (arith, q)))

@@ -1,0 +1,52 @@
+-- Tables as lists of numbers: parts that are zeroed, written over or read, and rows of counts of which some go up by one.
+-- Assumes nothing.
+use Prim.Native.Nat.{ℕ, zero, suc, _+_, _*_}
+use mathlib.Core.Bool.{Bool, cond, _&&_}
+use mathlib.Core.List.{List, [], _∷_, _++_}
+use lib.Dec.{leb, ltb}
+use lib.ListN.{length, take, drop, getD, set, replicate}
+use Rattle.lists.specs.Tests.{anyTo}
+
+-- the first n entries zero, the others as they were
+abbrev pub zeroed : ℕ → List ℕ → List ℕ
+zeroed n l = replicate n 0 ++ drop n l
+
+-- n entries from a place on
+abbrev pub part : ℕ → ℕ → List ℕ → List ℕ
+part base n l = take n (drop base l)
+
+-- a list written over a table, from a place on
+unfoldable pub writeAt : ℕ → List ℕ → List ℕ → List ℕ
+writeAt base p l = take base l ++ (p ++ drop (length p) (drop base l))
+
+-- in a table of rows of `room` entries, the list `top k` written over the front of row k, for each k below n
+unfoldable pub writtenRows : ℕ → (ℕ → List ℕ) → ℕ → List ℕ → List ℕ
+writtenRows room top zero l = l
+writtenRows room top (suc k) l = writeAt (k * room) (top k) (writtenRows room top k l)
+
+-- entry k is the length of `top k`, for each k below n
+unfoldable pub setLengths : (ℕ → List ℕ) → ℕ → List ℕ → List ℕ
+setLengths top zero l = l
+setLengths top (suc k) l = set (setLengths top k l) k (length (top k))
+
+-- one more at a place, where the test holds
+abbrev pub raiseIf : Bool → ℕ → List ℕ → List ℕ
+raiseIf t i l = cond t (set l i (getD l i 0 + 1)) l
+
+-- In a table of rows of w counts: in each of the n rows from row `first` on, row first + s has one more at place d s, where that is below w
+unfoldable pub raisedRows : ℕ → ℕ → (ℕ → ℕ) → ℕ → List ℕ → List ℕ
+raisedRows w first d zero l = l
+raisedRows w first d (suc s) l = raiseIf (ltb (d s) w) ((first + s) * w + d s) (raisedRows w first d s l)
+
+-- the same for groups of r rows: in each group k below n for which f holds
+unfoldable pub raisedGroups : ℕ → ℕ → (ℕ → Bool) → (ℕ → ℕ → ℕ) → ℕ → List ℕ → List ℕ
+raisedGroups w r f d zero l = l
+raisedGroups w r f d (suc k) l = cond (f k) (raisedRows w (k * r) (d k) r (raisedGroups w r f d k l)) (raisedGroups w r f d k l)
+
+-- the count that row first + s would have raised is not below a ceiling
+abbrev pub overRow : ℕ → ℕ → (ℕ → ℕ) → ℕ → List ℕ → ℕ → Bool
+overRow w first d ceiling l s = ltb (d s) w && leb ceiling (getD l ((first + s) * w + d s) 0)
+
+-- so in some row of some group k below n for which f holds
+abbrev pub overGroups : ℕ → ℕ → (ℕ → Bool) → (ℕ → ℕ → ℕ) → ℕ → ℕ → List ℕ → Bool
+overGroups w r f d ceiling n l = anyTo n (λ (k : ℕ). f k && anyTo r (overRow w (k * r) (d k) ceiling l))

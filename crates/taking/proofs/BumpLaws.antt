@@ -1,0 +1,59 @@
+-- The turns of `bump`: what holds after s of its turns, and what that comes to where it stops.
+-- Assumes nothing.
+use Prim.Native.Nat.{ℕ, _+_, _≤_, _<_}
+use mathlib.Core.Path.{_≡_, refl, sym, ap, _∙_}
+use mathlib.Core.List.{List}
+use native.Mathlib.Omega.{arith}
+use lib.Dec.{eqb}
+use lib.ListN.{length, getD, set}
+use lib.Seq.{getD-set-same, getD-set-other}
+use borrow.Author.Tests.{eqb-true, eqb-false}
+use Rattle.lists.proofs.Cases.{cases}
+use Rattle.taking.specs.Parts.{Bumped}
+
+-- s places from base on have one more, none of them past `shared`, and the others are as they were
+pub record Bumping (base shared s : ℕ) (old new : List ℕ) : Type 0 where
+  pub reached : s ≤ shared + 1
+  pub more : (t : ℕ) → t < s → getD new (base + t) 0 ≡ getD old (base + t) 0 + 1
+  pub before : (i : ℕ) → i < base → getD new i 0 ≡ getD old i 0
+  pub past : (i : ℕ) → base + s ≤ i → getD new i 0 ≡ getD old i 0
+
+pub bump-start : (base shared : ℕ) (l : List ℕ) → Bumping base shared 0 l l
+bump-start base shared l = record { reached = omega arith; more = λ t h. absurd (omega arith); before = λ i h. refl; past = λ i h. refl }
+
+module _ (base shared s : ℕ) (old new : List ℕ) (b : Bumping base shared s old new) where
+  pub bump-more : s ≤ shared → base + s < length new → Bumping base shared (s + 1) old (set new (base + s) (getD new (base + s) 0 + 1))
+  bump-more h long = record {
+    reached = omega arith;
+    more = more;
+    before = λ i f. getD-set-other new (base + s) i (getD new (base + s) 0 + 1) 0 (λ e. omega arith) ∙ b .before i f;
+    past = λ i f. getD-set-other new (base + s) i (getD new (base + s) 0 + 1) 0 (λ e. omega arith) ∙ b .past i (omega arith);
+  }
+    where
+      more : (t : ℕ) → t < s + 1 → getD (set new (base + s) (getD new (base + s) 0 + 1)) (base + t) 0 ≡ getD old (base + t) 0 + 1
+      more t f =
+          cases (eqb t s)
+          (λ e.
+          rw (eqb-true t s e)
+          (getD-set-same new (base + s) (getD new (base + s) 0 + 1) 0 long ∙ ap (λ (n : ℕ). n + 1) (b .past (base + s) (omega arith))))
+          (λ e.
+          let q : t ≡ s → ⊥ = eqb-false t s e in
+          getD-set-other new (base + s) (base + t) (getD new (base + s) 0 + 1) 0 (λ z. q (omega arith)) ∙ b .more t (omega (arith, q)))
+
+  -- stopped past `shared`
+  pub bump-stop : (n : ℕ) → shared < s → s ≤ n → Bumped base n shared old new
+  bump-stop n h f = record {
+    more = λ t g u. b .more t (omega arith);
+    less = λ t g u. b .past (base + t) (omega (arith, b .reached));
+    before = b .before;
+    past = λ i g. b .past i (omega arith);
+  }
+
+  -- all n places done
+  pub bump-end : Bumped base s shared old new
+  bump-end = record {
+    more = λ t g u. b .more t g;
+    less = λ t g u. absurd (omega (arith, b .reached));
+    before = b .before;
+    past = b .past;
+  }

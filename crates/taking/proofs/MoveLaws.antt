@@ -1,0 +1,152 @@
+-- The turns of `to_front`, and that it puts a block on top of its stack wherever the walk left.
+-- Assumes nothing.
+use Prim.Native.Nat.{ℕ, zero, suc, _+_, _-_, _*_, _≤_, _<_}
+use mathlib.Core.Path.{_≡_, refl, sym, ap, _∙_}
+use mathlib.Core.Bool.{Bool, true, false, cond, true≢false}
+use mathlib.Core.List.{List, [], _∷_, _++_}
+use native.Mathlib.Nat.{add-sub-cancel-left}
+use native.Mathlib.Numerals.{add-one, sub-one}
+use native.Mathlib.Omega.{arith}
+use lib.Dec.{eqb, ltb, leb·suc-suc}
+use lib.ListN.{length, take, drop, getD, set, length-append, length-take, length-drop, take-append-drop, drop-of-length-le, List·getD-append}
+use lib.Seq.{take-suc, append-snoc, set-at, slice, slice-cons, slice-empty, length-take-le, take-take, take-nil, getD-take}
+use borrow.Author.Tests.{eqb-true, eqb-false, eq-eqb, lt-ltb, le-ltb, ltb-true, ltb-false}
+use Rattle.lists.specs.Members.{mem, remove, above}
+use Rattle.lists.specs.Tables.{part, writeAt, writtenRows}
+use Rattle.lists.proofs.Cases.{cases}
+use Rattle.lists.proofs.MemberLaws.{length-front, ltb·zero-suc}
+use Rattle.lists.proofs.PartLaws.{drop-rows}
+use Rattle.order.specs.Limits.{sizes}
+use Rattle.taking.specs.Places.{usedOf, stackAt, blockAt}
+use Rattle.taking.specs.Taking.{topped}
+use Rattle.taking.specs.Parts.{front, Fit}
+use Rattle.taking.specs.declared.Opened.{Opened}
+
+-- ---- the turns
+
+-- the entries from i to p - 1 moved down one, over the entry at p
+abbrev pub shifted : ℕ → ℕ → List ℕ → List ℕ
+shifted i p l = take (suc i) l ++ (slice i p l ++ drop (suc p) l)
+
+pub shift-none : (p : ℕ) (l : List ℕ) → l ≡ shifted p p l
+shift-none p l = sym (ap (λ (m : List ℕ). take (suc p) l ++ (m ++ drop (suc p) l)) (slice-empty p l) ∙ take-append-drop (suc p) l)
+
+pub shift-more : (i p : ℕ) (l m : List ℕ) → m ≡ shifted i p l → 0 < i → i ≤ p → p < length l → set m i (getD m (i - 1) 0) ≡ shifted (i - 1) p l
+shift-more zero p l m e h f g = absurd (omega arith)
+shift-more (suc i) p l m e h f g =
+    rw (sub-one (suc i))
+    (ap (λ (q : List ℕ). set q (suc i) (getD q i 0)) (e ∙ ap (λ (t : List ℕ). t ++ (slice (suc i) p l ++ drop (suc p) l)) (take-suc l (suc i) 0 (omega arith)) ∙ append-snoc (take (suc i) l) (getD l (suc i) 0) (slice (suc i) p l ++ drop (suc p) l))
+    ∙ ap (λ (v : ℕ). set (take (suc i) l ++ getD l (suc i) 0 ∷ (slice (suc i) p l ++ drop (suc p) l)) (suc i) v)
+    (List·getD-append (take (suc i) l) (getD l (suc i) 0 ∷ (slice (suc i) p l ++ drop (suc p) l)) 0 i (rw (length-take-le (suc i) l (omega arith)) (omega arith))
+    ∙ getD-take (suc i) l i 0 (omega arith))
+    ∙ set-at (take (suc i) l) (getD l (suc i) 0) (slice (suc i) p l ++ drop (suc p) l) (getD l i 0) (suc i) (length-take-le (suc i) l (omega arith))
+    ∙ ap (λ (t : List ℕ). take (suc i) l ++ (t ++ drop (suc p) l)) (sym (slice-cons i p l 0 (omega arith) (omega arith))))
+
+pub shift-all : (x p : ℕ) (l m : List ℕ) → m ≡ shifted 0 p l → p < length l → set m 0 x ≡ front x p l
+shift-all x p [] m e h = absurd (omega arith)
+shift-all x p (y ∷ l) m e h = rw (add-one p) (ap (λ (q : List ℕ). set q 0 x) e)
+
+-- ---- where a walk leaves
+
+pub above-le : (x : ℕ) (l : List ℕ) → length (above x l) ≤ length l
+above-le x [] = omega arith
+above-le x (y ∷ l) = cases (eqb x y) (λ e. simp e (omega arith)) (λ e. simp e (omega (arith, above-le x l)))
+
+pub mem-above : (x : ℕ) (l : List ℕ) → mem x l ≡ ltb (length (above x l)) (length l)
+mem-above x [] = refl
+mem-above x (y ∷ l) = cases (eqb x y) (λ e. simp (e, ltb·zero-suc)) (λ e. simp (e, leb·suc-suc) (mem-above x l))
+
+front-old : (x : ℕ) (l : List ℕ) → length (above x l) < length l → front x (length (above x l)) l ≡ x ∷ remove x l
+front-old x l h = ap (λ (t : List ℕ). x ∷ t) (rw (add-one (length (above x l))) (around l h))
+  where
+    around : (l : List ℕ) → length (above x l) < length l → take (length (above x l)) l ++ drop (suc (length (above x l))) l ≡ remove x l
+    around [] h = absurd (omega arith)
+    around (y ∷ l) h =
+        cases (eqb x y)
+        (λ e. simp e)
+        (λ e. simp e (ap (λ (t : List ℕ). y ∷ t) (around l (rest (simp e at h)))))
+      where
+        rest : suc (length (above x l)) < suc (length l) → length (above x l) < length l
+        rest q = omega arith
+
+absent-remove : (x : ℕ) (l : List ℕ) → mem x l ≡ false → remove x l ≡ l
+absent-remove x [] h = refl
+absent-remove x (y ∷ l) h =
+    cases (eqb x y) (λ e. absurd (true≢false (simp e at h))) (λ e. simp e (ap (λ (t : List ℕ). y ∷ t) (absent-remove x l (simp e at h))))
+
+-- a part put back with as many entries is a list written over the table
+put-writes : (base n : ℕ) (p l : List ℕ) → length p ≡ n → take base l ++ (p ++ drop n (drop base l)) ≡ writeAt base p l
+unfolding writeAt
+put-writes base n p l e = ap (λ (m : ℕ). take base l ++ (p ++ drop m (drop base l))) (sym e)
+
+module _ (base used x : ℕ) (l : List ℕ) (inside : base + used ≤ length l) (p : ℕ) (left : p ≡ length (above x (part base used l))) where
+  part-long : length (part base used l) ≡ used
+  part-long = length-take-le used (drop base l) (rw (length-drop base l) (omega arith))
+
+  -- found: the part of `used` entries
+  pub put-old : p < used
+      → (take base l ++ (front x p (take (base + used - base) (drop base l)) ++ drop (base + used - base) (drop base l)) ≡ writeAt base (x ∷ remove x (part base used l)) l)
+      × (used ≡ length (x ∷ remove x (part base used l)))
+  put-old h =
+      (rw cut (ap (λ (t : List ℕ). take base l ++ (t ++ drop used (drop base l))) fronted ∙ put-writes base used (x ∷ remove x (part base used l)) l long), sym long)
+    where
+      cut : base + used - base ≡ used
+      cut = omega arith
+
+      fronted : front x p (take used (drop base l)) ≡ x ∷ remove x (part base used l)
+      fronted = ap (λ (q : ℕ). front x q (part base used l)) left ∙ front-old x (part base used l) (rw (part-long, ← left) h)
+
+      long : length (x ∷ remove x (part base used l)) ≡ used
+      long = length-front x (part base used l) ∙ simp (mem-above x (part base used l) ∙ lt-ltb (length (above x (part base used l))) (length (part base used l)) (rw (part-long, ← left) h)) part-long
+
+  -- new: the part of one entry more
+  pub put-new : used ≤ p → base + used < length l
+      → (take base l ++ (front x p (take (base + used + 1 - base) (drop base l)) ++ drop (base + used + 1 - base) (drop base l)) ≡ writeAt base (x ∷ remove x (part base used l)) l)
+      × (used + 1 ≡ length (x ∷ remove x (part base used l)))
+  put-new h f =
+      (rw cut (ap (λ (t : List ℕ). take base l ++ (t ++ drop (used + 1) (drop base l))) fronted ∙ put-writes base (used + 1) (x ∷ remove x (part base used l)) l long), sym long)
+    where
+      cut : base + used + 1 - base ≡ used + 1
+      cut = omega arith
+
+      last : p ≡ used
+      last = omega (arith, above-le x (part base used l), part-long, left)
+
+      absent : mem x (part base used l) ≡ false
+      absent = mem-above x (part base used l) ∙ le-ltb (length (above x (part base used l))) (length (part base used l)) (omega (arith, part-long, left))
+
+      tail : drop (used + 1) (take (used + 1) (drop base l)) ≡ []
+      tail = drop-of-length-le (take (used + 1) (drop base l)) {i = used + 1} (rw (length-take (used + 1) (drop base l)) (omega arith))
+
+      fronted : front x p (take (used + 1) (drop base l)) ≡ x ∷ remove x (part base used l)
+      fronted =
+          ap (λ (q : ℕ). front x q (take (used + 1) (drop base l))) last
+          ∙ ap (λ (t : List ℕ). x ∷ (take used (take (used + 1) (drop base l)) ++ t)) tail
+          ∙ ap (λ (t : List ℕ). x ∷ t) (mathlib.Core.List.append-nil (take used (take (used + 1) (drop base l))) ∙ take-take used (used + 1) (drop base l) (omega arith) ∙ sym (absent-remove x (part base used l) absent))
+
+      long : length (x ∷ remove x (part base used l)) ≡ used + 1
+      long = length-front x (part base used l) ∙ simp absent (omega (arith, part-long))
+
+-- ---- all stacks, where each walk left below room
+
+-- a stack with its block on top stays within room
+pub topped-le : (x room : ℕ) (q : List ℕ) → length (above x q) < room → length q ≤ room → length (x ∷ remove x q) ≤ room
+topped-le x room q h f =
+    rw (length-front x q)
+    (cases (mem x q) (λ e. simp e f) (λ e. let g = ltb-false (length (above x q)) (length q) (sym (mem-above x q) ∙ e) in simp e (omega arith)))
+
+-- every stack has room for its block
+abbrev pub Roomy : Opened → List ℕ → ℕ → Type 0
+Roomy v st a = (k : ℕ) → k < sizes (v .order) → length (topped v st a k) ≤ v .order .room
+
+pub roomy-of : (v : Opened) (st : List ℕ) (a m : ℕ) (ps : List ℕ) → Fit v (length st) m
+    → ((k : ℕ) → k < sizes (v .order) → (getD ps k 0 < v .order .room) × (getD ps k 0 ≡ length (above (blockAt v a k) (stackAt v st k)))) → Roomy v st a
+roomy-of v st a m ps f left k h =
+    topped-le (blockAt v a k) (v .order .room) (stackAt v st k) (rw (← left k h .1) (left k h .0)) (omega (arith, length-take (usedOf v k) (drop (k * v .order .room) st), f .13 k h))
+
+-- what the loop finds at size k, after the stacks before it have changed: the stack as it was
+module _ (v : Opened) (st : List ℕ) (a : ℕ) (need : sizes (v .order) * v .order .room ≤ length st) (roomy : Roomy v st a) (k : ℕ) (h : k < sizes (v .order)) where
+  pub part-same : (t : List ℕ) → t ≡ writtenRows (v .order .room) (topped v st a) k st → (u : ℕ) → u ≡ usedOf v k → part (k * v .order .room) u t ≡ stackAt v st k
+  part-same t e u eu =
+      ap (λ (n : ℕ). part (k * v .order .room) n t) eu
+      ∙ ap (take (usedOf v k)) (ap (drop (k * v .order .room)) e ∙ drop-rows (v .order .room) (topped v st a) st (sizes (v .order)) need roomy k (omega arith))

@@ -1,0 +1,87 @@
+-- What an order within its limits needs of its tables, and what its limits say of a state.
+-- Assumes nothing.
+use Prim.Native.Nat.{ℕ, _+_, _-_, _*_, _≤_, _<_}
+use mathlib.Core.Path.{_≡_, refl, sym, ap, _∙_}
+use mathlib.Core.Bool.{Bool, true, false, cond, not, _||_, true≢false}
+use native.Mathlib.Nat.{mul-le-mul}
+use native.Mathlib.Omega.{arith}
+use lib.Dec.{eqb, ltb}
+use lib.ListN.{length}
+use borrow.Author.Tests.{not-true, not-false, ltb-false, eqb-false}
+use Rattle.lists.specs.Tests.{All≤, anyTo}
+use Rattle.lists.proofs.Cases.{cases}
+use Rattle.lists.proofs.PartLaws.{row-in, rows-le}
+use Rattle.lists.proofs.TestLaws.{all-facts, none-first, any-not}
+use Rattle.order.specs.declared.Order.{Order}
+use Rattle.order.specs.Limits.{limits, within, sizes}
+use Rattle.taking.specs.Places.{rows, stackNeed, countNeed, usedOf}
+use Rattle.taking.specs.Taking.{isForeign}
+use Rattle.taking.specs.Parts.{earlyAnswer, Fit}
+use Rattle.taking.specs.declared.Opened.{Opened}
+
+-- the answer r of `is_within`, tested by `!`
+pub within-yes : (o : Order) (r : Bool) → r ≡ within o → not r ≡ false → All≤ (limits o)
+within-yes o r e h = all-facts (limits o) (sym e ∙ not-false r h)
+
+pub within-no : (o : Order) (r : Bool) → r ≡ within o → not r ≡ true → within o ≡ false
+within-no o r e h = sym e ∙ not-true r h
+
+pub within-test : (o : Order) (r : Bool) → r ≡ within o → not r ≡ false → within o ≡ true
+within-test o r e h = sym e ∙ not-false r h
+
+pub needs-small : (o : Order) → All≤ (limits o) → (stackNeed o ≤ 8388608) × (sizes o * rows o ≤ 120) × (countNeed o ≤ 1920)
+needs-small o f = (mul-le-mul {n₂ = 8} {m₂ = 1048576} few (omega (arith, f)), groups, mul-le-mul {n₂ = 120} {m₂ = 16} groups (omega (arith, f)))
+  where
+    few : sizes o ≤ 8
+    few = omega (arith, f)
+
+    groups : sizes o * rows o ≤ 120
+    groups = mul-le-mul {n₂ = 8} {m₂ = 15} few (omega (arith, f))
+
+-- the rows of size k, in the tables of an order that fits
+module _ (v : Opened) (n m k : ℕ) (f : Fit v n m) (h : k < sizes (v .order)) where
+  pub rows-small : k * rows (v .order) + rows (v .order) ≤ 120
+  rows-small = omega (arith, row-in k (sizes (v .order)) (rows (v .order)) h, mul-le-mul {n₁ = sizes (v .order)} {m₁ = rows (v .order)} {n₂ = 8} {m₂ = 15} (omega (arith, f)) (omega (arith, f)))
+
+  pub rows-fit : (k * rows (v .order) + rows (v .order)) * v .order .ways ≤ m
+  rows-fit = omega (arith, rows-le (k * rows (v .order) + rows (v .order)) (sizes (v .order) * rows (v .order)) (v .order .ways) (row-in k (sizes (v .order)) (rows (v .order)) h), f .12)
+
+  pub stack-fits : k * v .order .room + v .order .room ≤ n
+  stack-fits = omega (arith, row-in k (sizes (v .order)) (v .order .room) h, f .11)
+
+or-none : (a b : Bool) → (a || b) ≡ false → (a ≡ false) × (b ≡ false)
+or-none true b e = absurd (true≢false e)
+or-none false b e = (refl, e)
+
+-- what refusals 1 to 5 leave
+pub fit-of : (v : Opened) (n m : ℕ) → earlyAnswer v n m ≡ 0 → Fit v n m × (v .taken < v .order .refs)
+fit-of v n m e =
+    let first = none-first (not (within (v .order))) 0 _ e in
+    let second = none-first (ltb n (stackNeed (v .order))) 1 _ (first .1) in
+    let third = none-first (ltb m (countNeed (v .order))) 2 _ (second .1) in
+    let fourth = none-first (isForeign v) 3 _ (third .1) in
+    let fifth = none-first (eqb (v .taken) (v .order .refs)) 4 0 (fourth .1) in
+    let f = all-facts (limits (v .order)) (not-false (within (v .order)) (first .0)) in
+    let own = or-none (anyTo (sizes (v .order)) (λ (k : ℕ). ltb (v .order .room) (usedOf v k))) (ltb (v .order .refs) (v .taken)) (fourth .0) in
+    let below = ltb-false (v .order .refs) (v .taken) (own .1) in
+    let less : v .taken ≡ v .order .refs → ⊥ = eqb-false (v .taken) (v .order .refs) (fifth .0) in
+    let long = ltb-false n (stackNeed (v .order)) (second .0) in
+    let wide = ltb-false m (countNeed (v .order)) (third .0) in (
+      (
+        omega (arith, f),
+        omega (arith, f),
+        omega (arith, f),
+        omega (arith, f),
+        omega (arith, f),
+        omega (arith, f),
+        omega (arith, f),
+        omega (arith, f),
+        omega (arith, f),
+        omega (arith, f),
+        below,
+        long,
+        wide,
+        (λ k h. ltb-false (v .order .room) (usedOf v k) (any-not (sizes (v .order)) (λ (k : ℕ). ltb (v .order .room) (usedOf v k)) (own .0) k h)),
+      ),
+      omega (arith, less),
+    )

@@ -1,0 +1,131 @@
+-- From what the walks found to the outcome of a taking: the code's tests are the page's, and the answer decides the rest.
+-- Assumes nothing.
+use Prim.Native.Nat.{ℕ, zero, suc, _+_, _*_, _-_, _≤_, _<_}
+use mathlib.Core.Path.{_≡_, refl, sym, ap, _∙_, subst}
+use mathlib.Core.Bool.{Bool, true, false, cond, not, _&&_, _||_, true≢false, false≢true}
+use mathlib.Core.List.{List, [], _∷_}
+use native.Mathlib.Omega.{arith}
+use lib.Dec.{eqb, ltb, leb}
+use lib.ListN.{length, getD, replicate}
+use borrow.Author.Tests.{eq-eqb, ne-eqb, ltb-true, ltb-false, lt-ltb, leb-true, leb-false, le-leb, lt-leb}
+use Rattle.lists.specs.Members.{mem, above}
+use Rattle.lists.specs.Tables.{overRow, overGroups, raisedGroups}
+use Rattle.lists.specs.Tests.{anyTo}
+use Rattle.lists.proofs.Cases.{cases}
+use Rattle.lists.proofs.MemberLaws.{absent-above}
+use Rattle.lists.proofs.RaiseLaws.{groups-same}
+use Rattle.lists.proofs.TestLaws.{any-same, any-not}
+use Rattle.order.specs.Limits.{sizes, within}
+use Rattle.taking.specs.Places.{rows, stackNeed, countNeed, cell, usedOf, stackAt, blockAt, foundAt, depthAt}
+use Rattle.taking.specs.Taking.{isForeign, fullAt, isOver, takeAnswer, isTaken, stateDone, stacksDone, countsDone, Takes}
+use Rattle.taking.specs.Parts.{earlyAnswer, Fit, Looked, foundBy, deepBy, Raisable}
+use Rattle.taking.specs.declared.Opened.{Opened}
+use Rattle.taking.proofs.LookLaws.{length-stack}
+use Rattle.taking.proofs.MoveLaws.{mem-above}
+
+module _ (v : Opened) (st : List ℕ) (a m : ℕ) (ps ds : List ℕ) (f : Fit v (length st) m) (seen : Looked v st a ps ds) where
+  same-found : (k : ℕ) → k < sizes (v .order) → foundBy v ps k ≡ foundAt v st a k
+  same-found k h =
+      ap (λ (n : ℕ). ltb n (usedOf v k)) (seen .place k h)
+      ∙ ap (ltb (length (above (blockAt v a k) (stackAt v st k)))) (sym (length-stack v st m k f h))
+      ∙ sym (mem-above (blockAt v a k) (stackAt v st k))
+
+  same-full : (k : ℕ) → k < sizes (v .order) → leb (v .order .room) (getD ps k 0) ≡ fullAt v st a k
+  same-full k h =
+      cases (foundAt v st a k)
+      (λ e.
+      let left = ltb-true (getD ps k 0) (usedOf v k) (same-found k h ∙ e) in
+      simp e (lt-leb (v .order .room) (getD ps k 0) (omega (arith, f .13 k h))))
+      (λ e.
+      let up = ap length (absent-above (blockAt v a k) (stackAt v st k) e) in
+      let left : getD ps k 0 ≡ usedOf v k = seen .place k h ∙ up ∙ length-stack v st m k f h in
+      simp e (ap (leb (v .order .room)) left))
+
+  pub full-is : anyTo (sizes (v .order)) (λ (k : ℕ). leb (v .order .room) (getD ps k 0)) ≡ anyTo (sizes (v .order)) (fullAt v st a)
+  full-is = any-same (sizes (v .order)) (λ (k : ℕ). leb (v .order .room) (getD ps k 0)) (fullAt v st a) same-full
+
+  pub over-is : (ct : List ℕ) → overGroups (v .order .ways) (rows (v .order)) (foundBy v ps) (deepBy ds) (v .taken) (sizes (v .order)) ct ≡ isOver v st ct a
+  over-is ct =
+      any-same (sizes (v .order))
+      (λ (k : ℕ). foundBy v ps k && anyTo (rows (v .order)) (overRow (v .order .ways) (k * rows (v .order)) (deepBy ds k) (v .taken) ct))
+      (λ (k : ℕ). foundAt v st a k && anyTo (rows (v .order)) (overRow (v .order .ways) (k * rows (v .order)) (depthAt v st a k) (v .taken) ct))
+      (λ k h.
+      ap (λ (t : Bool). t && anyTo (rows (v .order)) (overRow (v .order .ways) (k * rows (v .order)) (deepBy ds k) (v .taken) ct)) (same-found k h)
+      ∙ ap (λ (t : Bool). foundAt v st a k && t)
+      (any-same (rows (v .order)) (overRow (v .order .ways) (k * rows (v .order)) (deepBy ds k) (v .taken) ct) (overRow (v .order .ways) (k * rows (v .order)) (depthAt v st a k) (v .taken) ct)
+      (λ s g. ap (λ (n : ℕ). ltb n (v .order .ways) && leb (v .taken) (getD ct ((k * rows (v .order) + s) * v .order .ways + n) 0)) (seen .deep k s h g))))
+
+  pub counts-is : (ct : List ℕ) → raisedGroups (v .order .ways) (rows (v .order)) (foundBy v ps) (deepBy ds) (sizes (v .order)) ct ≡ countsDone v st ct a
+  counts-is ct = groups-same (v .order .ways) (rows (v .order)) (foundBy v ps) (foundAt v st a) (deepBy ds) (depthAt v st a) (sizes (v .order)) ct same-found (seen .deep)
+
+  pub room-of : anyTo (sizes (v .order)) (λ (k : ℕ). leb (v .order .room) (getD ps k 0)) ≡ false
+      → (k : ℕ) → k < sizes (v .order) → (getD ps k 0 < v .order .room) × (getD ps k 0 ≡ length (above (blockAt v a k) (stackAt v st k)))
+  room-of e k h = (leb-false (v .order .room) (getD ps k 0) (any-not (sizes (v .order)) (λ (k : ℕ). leb (v .order .room) (getD ps k 0)) e k h), seen .place k h)
+
+-- a scratch array at its start
+pub getD-zeros : (n i : ℕ) → _≡_ {A = ℕ} (getD (replicate n 0) i 0) 0
+getD-zeros zero i = refl
+getD-zeros (suc n) zero = refl
+getD-zeros (suc n) (suc i) = getD-zeros n i
+
+and-false-of : (a b : Bool) → (a && b) ≡ false → a ≡ true → b ≡ false
+and-false-of true b e h = e
+and-false-of false b e h = absurd (false≢true h)
+
+-- where no count is over, each can go up by one
+pub raisable-of : (v : Opened) (ct : List ℕ) (f : ℕ → Bool) (d : ℕ → ℕ → ℕ) → v .taken ≤ 4294967295
+    → overGroups (v .order .ways) (rows (v .order)) f d (v .taken) (sizes (v .order)) ct ≡ false → Raisable v ct f d
+raisable-of v ct f d small none k s h e g below =
+    let group = and-false-of (f k) (anyTo (rows (v .order)) (overRow (v .order .ways) (k * rows (v .order)) (d k) (v .taken) ct))
+    (any-not (sizes (v .order)) (λ (k : ℕ). f k && anyTo (rows (v .order)) (overRow (v .order .ways) (k * rows (v .order)) (d k) (v .taken) ct)) none k h) e in
+    let row = any-not (rows (v .order)) (overRow (v .order .ways) (k * rows (v .order)) (d k) (v .taken) ct) group s g in
+    let under = leb-false (v .taken) (getD ct (cell (v .order) k s (d k s)) 0)
+    (and-false-of (ltb (d k s) (v .order .ways)) (leb (v .taken) (getD ct (cell (v .order) k s (d k s)) 0)) row (lt-ltb (d k s) (v .order .ways) below)) in
+    omega arith
+
+-- ---- the answer
+
+-- the first of five tests, and then the rest
+first-five : (a b c d e : Bool) (rest : ℕ)
+    → cond a 1 (cond b 2 (cond c 3 (cond d 4 (cond e 5 rest))))
+    ≡ cond (eqb (cond a 1 (cond b 2 (cond c 3 (cond d 4 (cond e 5 0))))) 0) rest (cond a 1 (cond b 2 (cond c 3 (cond d 4 (cond e 5 0)))))
+first-five true b c d e rest = refl
+first-five false true c d e rest = refl
+first-five false false true d e rest = refl
+first-five false false false true e rest = refl
+first-five false false false false true rest = refl
+first-five false false false false false rest = refl
+
+module _ (v : Opened) (st ct : List ℕ) (a : ℕ) where
+  answer-is : takeAnswer v st ct a
+      ≡ cond (eqb (earlyAnswer v (length st) (length ct)) 0) (cond (anyTo (sizes (v .order)) (fullAt v st a)) 6 (cond (isOver v st ct a) 7 0)) (earlyAnswer v (length st) (length ct))
+  answer-is =
+      first-five (not (within (v .order))) (ltb (length st) (stackNeed (v .order))) (ltb (length ct) (countNeed (v .order))) (isForeign v) (eqb (v .taken) (v .order .refs))
+      (cond (anyTo (sizes (v .order)) (fullAt v st a)) 6 (cond (isOver v st ct a) 7 0))
+
+  pub answer-early : (r : ℕ) → r ≡ earlyAnswer v (length st) (length ct) → (r ≡ 0 → ⊥) → r ≡ takeAnswer v st ct a
+  answer-early r e ne =
+      sym (answer-is ∙ simp (ne-eqb (earlyAnswer v (length st) (length ct)) 0 (λ z. ne (e ∙ z))) (sym e))
+
+  pub answer-late : earlyAnswer v (length st) (length ct) ≡ 0 → (t u : Bool) → anyTo (sizes (v .order)) (fullAt v st a) ≡ t → isOver v st ct a ≡ u
+      → takeAnswer v st ct a ≡ cond t 6 (cond u 7 0)
+  answer-late e t u p q = answer-is ∙ simp (eq-eqb (earlyAnswer v (length st) (length ct)) 0 e, p, q)
+
+  -- ---- the outcome
+
+  pub refused : (r : ℕ) → r ≡ takeAnswer v st ct a → (r ≡ 0 → ⊥) → Takes v st ct a (record { state = v; answer = r }) st ct
+  refused r e ne =
+      let no = ne-eqb (takeAnswer v st ct a) 0 (λ z. ne (e ∙ z)) in
+      record { answer = e; state = pick (stateDone v st a) v no; stacks = pick (stacksDone v st a) st no; counts = pick (countsDone v st ct a) ct no }
+    where
+      pick : {A : Type 0} (x y : A) → eqb (takeAnswer v st ct a) 0 ≡ false → y ≡ cond (eqb (takeAnswer v st ct a) 0) x y
+      pick x y is = sym (ap (λ (t : Bool). cond t x y) is)
+
+  pub done : (v′ : Opened) (st′ ct′ : List ℕ) → takeAnswer v st ct a ≡ 0 → v′ ≡ stateDone v st a → st′ ≡ stacksDone v st a → ct′ ≡ countsDone v st ct a
+      → Takes v st ct a (record { state = v′; answer = 0 }) st′ ct′
+  done v′ st′ ct′ e p q r =
+      let yes = eq-eqb (takeAnswer v st ct a) 0 e in
+      record { answer = sym e; state = pick v′ (stateDone v st a) v yes p; stacks = pick st′ (stacksDone v st a) st yes q; counts = pick ct′ (countsDone v st ct a) ct yes r }
+    where
+      pick : {A : Type 0} (z x y : A) → eqb (takeAnswer v st ct a) 0 ≡ true → z ≡ x → z ≡ cond (eqb (takeAnswer v st ct a) 0) x y
+      pick z x y is p = p ∙ sym (ap (λ (t : Bool). cond t x y) is)

@@ -1,0 +1,5 @@
+pub mod Opening
+pub mod Parts
+pub mod Places
+pub mod Questions
+pub mod Taking

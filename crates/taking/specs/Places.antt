@@ -1,0 +1,45 @@
+-- The opened order and where things stand in its two tables (document 01, "The order's numbers").
+-- A block size is named by k = b - bmin, from 0 to sizes - 1. Assumes nothing.
+use Prim.Native.Nat.{ℕ, _+_, _*_}
+use mathlib.Core.Bool.{Bool}
+use mathlib.Core.List.{List}
+use lib.ListN.{getD}
+use Rattle.lists.specs.Members.{mem}
+use Rattle.lists.specs.Tables.{part}
+use Rattle.cache.specs.Cache.{blockOf}
+use Rattle.cache.specs.Stack.{depth}
+use Rattle.order.specs.declared.Order.{Order}
+use Rattle.order.specs.Limits.{sizes}
+use Rattle.taking.specs.declared.Opened.{Opened}
+
+-- every s from 0 to smax
+abbrev pub rows : Order → ℕ
+rows o = o .smax + 1
+
+-- how many entries the order needs of the stack table and of the count table
+abbrev pub stackNeed : Order → ℕ
+stackNeed o = sizes o * o .room
+
+abbrev pub countNeed : Order → ℕ
+countNeed o = sizes o * rows o * o .ways
+
+-- where the count for (b, s, d) stands
+abbrev pub cell : Order → ℕ → ℕ → ℕ → ℕ
+cell o k s d = (k * rows o + s) * o .ways + d
+
+-- the used length of a stack, and the stack itself: it starts at k * room, top first
+abbrev pub usedOf : Opened → ℕ → ℕ
+usedOf v k = getD (v .used) k 0
+
+abbrev pub stackAt : Opened → List ℕ → ℕ → List ℕ
+stackAt v st k = part (k * v .order .room) (usedOf v k) st
+
+-- the block of address a; whether it is in the stack; its depth there at 2^s sets
+abbrev pub blockAt : Opened → ℕ → ℕ → ℕ
+blockAt v a k = blockOf (v .order .bmin .0 + k) a
+
+abbrev pub foundAt : Opened → List ℕ → ℕ → ℕ → Bool
+foundAt v st a k = mem (blockAt v a k) (stackAt v st k)
+
+abbrev pub depthAt : Opened → List ℕ → ℕ → ℕ → ℕ → ℕ
+depthAt v st a k s = depth s (blockAt v a k) (stackAt v st k)

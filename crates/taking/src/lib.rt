@@ -1,0 +1,312 @@
+// The opened order: opening, taking a reference, and the question of misses (document 01, "The stack
+// and the counts", "The order's numbers" and "Questions"). Both tables are lent: slices of 32-bit
+// numbers, laid out as that document says.
+use counting::bump;
+use counting::is_over;
+use counting::raise_all;
+use counting::summed;
+use moving::clear;
+use moving::move_all;
+use order::Order;
+use units::Addr;
+use units::BlockNo;
+use units::ByteExp;
+use units::refusal;
+ghost use mathlib.Core.Path.{_≡_};
+ghost use Prim.Native.Nat.{ℕ, _-_, _≤_, _<_};
+ghost use mathlib.Core.Bool.{true, false};
+ghost use lib.ListN.{length, getD};
+ghost use lib.Dec.{leb};
+ghost use Rattle.lists.specs.Tests.{anyTo};
+ghost use Rattle.order.specs.Limits.{sizes};
+ghost use Rattle.taking.specs.Opening.{Opens};
+ghost use Rattle.taking.specs.Taking.{Takes, isForeign};
+ghost use Rattle.taking.specs.Questions.{has as Questions·has, missesOf};
+ghost use Rattle.taking.specs.Parts.{earlyAnswer};
+
+mod counting;
+mod moving;
+
+// The opened order: the order's numbers, the references taken, and the used length of each stack.
+pub struct Opened {
+    pub order: Order,
+    pub taken: u32,
+    pub used: [u32; 8],
+}
+
+// The state handed back, beside the answer number.
+pub struct Reply {
+    pub state: Opened,
+    pub answer: u32,
+}
+
+// How often a cache missed, beside the answer number: 0 where that is not 0.
+pub struct Counted {
+    pub answer: u32,
+    pub misses: u32,
+}
+
+impl Opened {
+    // Opens an order over two tables: zeroes what it needs of them.
+    pub fn open(order: Order, stacks: &mut [u32], counts: &mut [u32]) -> Reply
+        ensures { λ r. ⌜ Opens order (now (stacks .entry)) (now (counts .entry)) r (now (stacks .exit)) (now (counts .exit)) ⌝ }
+    {
+        let none = Opened {
+            order: Order {
+                bmin: ByteExp(0),
+                bmax: ByteExp(0),
+                smax: 0,
+                ways: 0,
+                room: 0,
+                refs: 0,
+            },
+            taken: 0,
+            used: [0; 8],
+        };
+        let bmin = order.bmin.0;
+        let bmax = order.bmax.0;
+        let smax = order.smax;
+        let ways = order.ways as usize;
+        let room = order.room as usize;
+        if !order.is_within() {
+            return Reply {
+                state: none,
+                answer: refusal::OUTSIDE_LIMITS,
+            };
+        }
+        let sizes = (bmax - bmin + 1) as usize;
+        let rows = (smax + 1) as usize;
+        let stack_need = sizes * room;
+        let count_need = sizes * rows * ways;
+        if stacks.len() < stack_need {
+            return Reply {
+                state: none,
+                answer: refusal::SHORT_STACKS,
+            };
+        }
+        if counts.len() < count_need {
+            return Reply {
+                state: none,
+                answer: refusal::SHORT_COUNTS,
+            };
+        }
+        clear(stacks, stack_need);
+        clear(counts, count_need);
+        Reply {
+            state: Opened {
+                order,
+                taken: 0,
+                used: [0; 8],
+            },
+            answer: refusal::DONE,
+        }
+    }
+
+    // Takes a reference. All block sizes are looked at before any count is raised or any block moved.
+    pub fn take_ref(self, stacks: &mut [u32], counts: &mut [u32], a: Addr) -> Reply
+        ensures { λ r. ⌜ Takes self (now (stacks .entry)) (now (counts .entry)) (a .0) r (now (stacks .exit)) (now (counts .exit)) ⌝ }
+    {
+        let addr = a.0;
+        let order = self.order;
+        let bmin = order.bmin.0;
+        let bmax = order.bmax.0;
+        let smax = order.smax;
+        let room = order.room as usize;
+        let early = self.early(stacks.len(), counts.len());
+        if early != 0 {
+            return Reply {
+                state: self,
+                answer: early,
+            };
+        }
+        let sizes = (bmax - bmin + 1) as usize;
+        let rows = (smax + 1) as usize;
+        let mut places = [0u32; 8];
+        let mut depths = [0u32; 120];
+        let mut k = 0usize;
+        while k < sizes {
+            let x = BlockNo(addr >> (bmin + k as u32));
+            let base = k * room;
+            let used = self.used[k] as usize;
+            let mut i = 0usize;
+            let place = loop {
+                if i >= used {
+                    break i;
+                }
+                let y = BlockNo(stacks[base + i]);
+                if y.0 == x.0 {
+                    break i;
+                }
+                let shared = u32::trailing_zeros(x.0 ^ y.0);
+                bump(&mut depths, k * 15, rows, shared as usize);
+                i += 1;
+            };
+            places[k] = place as u32;
+            k += 1;
+        }
+        if self.is_full(&places) {
+            return Reply {
+                state: self,
+                answer: refusal::STACK_FULL,
+            };
+        }
+        if is_over(self, counts, stacks.len(), &places, &depths) {
+            return Reply {
+                state: self,
+                answer: refusal::COUNT_OVER,
+            };
+        }
+        raise_all(self, counts, stacks.len(), &places, &depths);
+        let state = move_all(self, stacks, counts.len(), &places, addr);
+        Reply {
+            state,
+            answer: refusal::DONE,
+        }
+    }
+
+    // The misses of the cache (b, s, w): the references taken less the counts at depths 0 to w - 1.
+    pub fn misses(self, counts: &[u32], b: ByteExp, s: u32, w: u32) -> Counted
+        ensures { λ r. ⌜ r ≡ missesOf self (now (counts .entry)) (b .0) s w ⌝ }
+    {
+        let asked = b.0;
+        let order = self.order;
+        let bmin = order.bmin.0;
+        let bmax = order.bmax.0;
+        let smax = order.smax;
+        let ways = order.ways as usize;
+        let taken = self.taken as u64;
+        if !order.is_within() {
+            return Counted {
+                answer: refusal::OUTSIDE_LIMITS,
+                misses: 0,
+            };
+        }
+        let sizes = (bmax - bmin + 1) as usize;
+        let rows = (smax + 1) as usize;
+        if counts.len() < sizes * rows * ways {
+            return Counted {
+                answer: refusal::SHORT_COUNTS,
+                misses: 0,
+            };
+        }
+        if self.is_foreign() {
+            return Counted {
+                answer: refusal::FOREIGN_STATE,
+                misses: 0,
+            };
+        }
+        if !self.has(b, s, w) {
+            return Counted {
+                answer: refusal::NOT_IN_ORDER,
+                misses: 0,
+            };
+        }
+        let k = (asked - bmin) as usize;
+        let hits = summed(counts, (k * rows + s as usize) * ways, w as usize);
+        if taken < hits {
+            return Counted {
+                answer: refusal::COUNT_OVER,
+                misses: 0,
+            };
+        }
+        Counted {
+            answer: refusal::DONE,
+            misses: (taken - hits) as u32,
+        }
+    }
+
+    // The order has (b, s, w).
+    pub fn has(self, b: ByteExp, s: u32, w: u32) -> bool
+        ensures { λ r. ⌜ r ≡ Questions·has (self .order) (b .0) s w ⌝ }
+    {
+        let asked = b.0;
+        let bmin = self.order.bmin.0;
+        let bmax = self.order.bmax.0;
+        let smax = self.order.smax;
+        let ways = self.order.ways;
+        if asked < bmin {
+            return false;
+        }
+        if asked > bmax {
+            return false;
+        }
+        if s > smax {
+            return false;
+        }
+        if w < 1 {
+            return false;
+        }
+        if w > ways {
+            return false;
+        }
+        true
+    }
+
+    // The state has a used length above room for a block size of the order, or references above refs.
+    fn is_foreign(self) -> bool
+        requires { ⌜ (self .order .bmin .0 ≤ self .order .bmax .0) × (self .order .bmax .0 - self .order .bmin .0 ≤ 7) ⌝ }
+        ensures { λ r. ⌜ r ≡ isForeign self ⌝ }
+    {
+        let sizes = (self.order.bmax.0 - self.order.bmin.0 + 1) as usize;
+        let room = self.order.room;
+        let refs = self.order.refs;
+        let taken = self.taken;
+        let mut k = 0usize;
+        while k < sizes {
+            if self.used[k] > room {
+                return true;
+            }
+            k += 1;
+        }
+        taken > refs
+    }
+
+    // Refusals 1 to 5 of a taking, with tables of n and m entries; 0 where none applies.
+    fn early(self, n: usize, m: usize) -> u32
+        ensures { λ r. ⌜ r ≡ earlyAnswer self n m ⌝ }
+    {
+        let order = self.order;
+        let bmin = order.bmin.0;
+        let bmax = order.bmax.0;
+        let smax = order.smax;
+        let ways = order.ways as usize;
+        let room = order.room as usize;
+        let refs = order.refs;
+        let taken = self.taken;
+        if !order.is_within() {
+            return refusal::OUTSIDE_LIMITS;
+        }
+        let sizes = (bmax - bmin + 1) as usize;
+        let rows = (smax + 1) as usize;
+        if n < sizes * room {
+            return refusal::SHORT_STACKS;
+        }
+        if m < sizes * rows * ways {
+            return refusal::SHORT_COUNTS;
+        }
+        if self.is_foreign() {
+            return refusal::FOREIGN_STATE;
+        }
+        if taken == refs {
+            return refusal::REFS_REACHED;
+        }
+        refusal::DONE
+    }
+
+    // Some walk left at or past room: its block is new and its stack is full.
+    fn is_full(self, places: &[u32]) -> bool
+        requires { ⌜ (self .order .bmin .0 ≤ self .order .bmax .0) × (self .order .bmax .0 - self .order .bmin .0 ≤ 7) × (length (now places) ≡ 8) ⌝ }
+        ensures { λ r. ⌜ r ≡ anyTo (sizes (self .order)) (λ (k : ℕ). leb (self .order .room) (getD (now (places .entry)) k 0)) ⌝ }
+    {
+        let sizes = (self.order.bmax.0 - self.order.bmin.0 + 1) as usize;
+        let room = self.order.room;
+        let mut k = 0usize;
+        while k < sizes {
+            if places[k] >= room {
+                return true;
+            }
+            k += 1;
+        }
+        false
+    }
+}
