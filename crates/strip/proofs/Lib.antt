@@ -1,0 +1,5 @@
+pub mod AnswerLaws
+pub mod Examples
+pub mod FilterLaws
+pub mod PassLaws
+pub mod StripClaims
