@@ -1,0 +1,55 @@
+-- What the contracts and the laws of runs come to, put as the claims say it. Assumes nothing.
+use Prim.Native.Nat.{ℕ, _+_}
+use mathlib.Core.Path.{_≡_, refl, sym, ap, _∙_, subst}
+use mathlib.Core.Bool.{Bool, true, false, cond}
+use mathlib.Core.List.{List}
+use lib.Dec.{eqb}
+use borrow.Author.Tests.{ne-eqb}
+use Rattle.cache.specs.Cache.{missesOver}
+use Rattle.order.specs.declared.Order.{Order}
+use Rattle.order.specs.Limits.{zeroOrder}
+use Rattle.taking.specs.Opening.{Opens, fresh, openAnswer}
+use Rattle.taking.specs.Taking.{Takes, fullAt, takeAnswer}
+use Rattle.taking.specs.Questions.{has, missesOf}
+use Rattle.taking.specs.declared.Reply.{Reply}
+use Rattle.taking.specs.declared.Opened.{Opened}
+use Rattle.taking.specs.declared.Counted.{Counted}
+use Rattle.runs.specs.Calls.{World, Call, Calls}
+use Rattle.runs.proofs.CallLaws.{history-after, order-after}
+use Rattle.runs.proofs.AnswerLaws.{misses-after, answer-after}
+
+-- what is picked by an answer that is not 0
+picked : {A : Type 0} (n : ℕ) (x y z : A) → z ≡ cond (eqb n 0) x y → (n ≡ 0 → ⊥) → z ≡ y
+picked n x y z e ne = e ∙ ap (λ (t : Bool). cond t x y) (ne-eqb n 0 ne)
+
+pub opening-refused : {o : Order} {st ct : List ℕ} {r : Reply} {st′ ct′ : List ℕ} → Opens o st ct r st′ ct′ → (r .answer ≡ 0 → ⊥)
+    → (r .state ≡ fresh zeroOrder) × (st′ ≡ st) × (ct′ ≡ ct)
+opening-refused {o} {st} {ct} {r} {st′} {ct′} c ne =
+    let refused : openAnswer o st ct ≡ 0 → ⊥ = λ z. ne (c .answer ∙ z) in (
+      picked (openAnswer o st ct) _ _ (r .state) (c .state) refused,
+      picked (openAnswer o st ct) _ _ st′ (c .stacks) refused,
+      picked (openAnswer o st ct) _ _ ct′ (c .counts) refused,
+    )
+
+pub taking-refused : {v : Opened} {st ct : List ℕ} {a : ℕ} {r : Reply} {st′ ct′ : List ℕ} → Takes v st ct a r st′ ct′ → (r .answer ≡ 0 → ⊥)
+    → (r .state ≡ v) × (st′ ≡ st) × (ct′ ≡ ct)
+taking-refused {v} {st} {ct} {a} {r} {st′} {ct′} c ne =
+    let refused : takeAnswer v st ct a ≡ 0 → ⊥ = λ z. ne (c .answer ∙ z) in (
+      picked (takeAnswer v st ct a) _ _ (r .state) (c .state) refused,
+      picked (takeAnswer v st ct a) _ _ st′ (c .stacks) refused,
+      picked (takeAnswer v st ct a) _ _ ct′ (c .counts) refused,
+    )
+
+module _ (o : Order) (st ct : List ℕ) (r : Reply) (st₀ ct₀ : List ℕ) (opens : Opens o st ct r st₀ ct₀) (opened : r .answer ≡ 0)
+    (l : List ℕ) (v : World) (calls : Calls (record { state = r .state; stacks = st₀; counts = ct₀ }) l v) where
+  pub misses-promised : (b s w : ℕ) → has o b s w ≡ true → (q : Counted) → q ≡ missesOf (v .state) (v .counts) b s w
+      → (q .answer ≡ 0) × (q .misses ≡ missesOver b s w l)
+  misses-promised b s w h q e =
+      let past = history-after o st ct r st₀ ct₀ opens opened v l calls in
+      let there = subst (λ (x : Order). has x b s w ≡ true) (sym (order-after o st ct r st₀ ct₀ opens opened v l calls)) h in
+      let given = e ∙ misses-after (v .state) (v .stacks) (v .counts) l past b s w there in
+      (ap (λ q. q .answer) given, ap (λ q. q .misses) given)
+
+  pub answer-promised : (a : ℕ) (n : ℕ) (v′ : World) → Call v a n v′ → n ≡ cond (eqb (v .state .taken) (v .state .order .refs)) 5 (cond (fullAt (v .state) (v .stacks) a 0) 6 0)
+  answer-promised a n v′ c =
+      sym (c .answer) ∙ c .takes .answer ∙ answer-after (v .state) (v .stacks) (v .counts) l (history-after o st ct r st₀ ct₀ opens opened v l calls) a

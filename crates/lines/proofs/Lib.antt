@@ -1,0 +1,4 @@
+pub mod ByteLaws
+pub mod Examples
+pub mod OrderLaws
+pub mod TraceLaws

@@ -1,0 +1,4 @@
+pub mod Bytes
+pub mod OrderLine
+pub mod Parts
+pub mod TraceLine
