@@ -1,0 +1,287 @@
+// What the sweep program decides: from a line's bytes and the state to the next state and the answer
+// (document 01, "Program, order lines and din lines"). Both tables are lent.
+use lines::Kinds;
+use lines::OrderLine;
+use lines::TraceLine;
+use lines::order_line;
+use lines::trace_line;
+use order::Order;
+use taking::Opened;
+use units::Addr;
+use units::ByteExp;
+use units::refusal;
+ghost use mathlib.Core.Path.{_≡_};
+ghost use Rattle.reading.specs.Reading.{start as Reading·start, answered, stays, withSkipped, numberAt, kindsAt, beginAt, takes, orderStep, traceStep, Steps, longLine, ended as Reading·ended};
+ghost use Rattle.units.specs.Refusals.{done};
+ghost use Prim.Native.Nat.{_<_};
+ghost use Rattle.lines.specs.OrderLine.{orderLineOf};
+ghost use Rattle.lines.specs.TraceLine.{traceLineOf};
+
+// How far the input is read.
+pub struct Reading {
+    // Lines read so far; at a refusal, the number of its line.
+    pub lines: u64,
+    // What comes next: 0 to 5 that of the order's numbers, 6 `kinds=` or `begin=`, 7 `begin=`, 8 the trace.
+    pub stage: u32,
+    pub numbers: [u32; 6],
+    pub kinds: Kinds,
+    // Lines skipped.
+    pub skipped: u32,
+    pub opened: Opened,
+}
+
+// The next state, beside the answer number. Where that is not 0 the line next.lines is refused.
+pub struct Step {
+    pub answer: u32,
+    pub next: Reading,
+}
+
+impl Reading {
+    // Before the first line.
+    pub fn start() -> Reading
+        ensures { λ r. ⌜ r ≡ Reading·start ⌝ }
+    {
+        Reading {
+            lines: 0,
+            stage: 0,
+            numbers: [0; 6],
+            kinds: Kinds::All,
+            skipped: 0,
+            opened: Opened {
+                order: Order {
+                    bmin: ByteExp(0),
+                    bmax: ByteExp(0),
+                    smax: 0,
+                    ways: 0,
+                    room: 0,
+                    refs: 0,
+                },
+                taken: 0,
+                used: [0; 8],
+            },
+        }
+    }
+
+    // One line, without its LF.
+    pub fn step(self, line: &[u8], stacks: &mut [u32], counts: &mut [u32]) -> Step
+        ensures { λ r. ⌜ Steps self (now (line .entry)) (now (stacks .entry)) (now (counts .entry)) r (now (stacks .exit)) (now (counts .exit)) ⌝ }
+    {
+        let mut counted = self;
+        let lines = self.lines;
+        let stage = self.stage;
+        if lines >= 4294967295 {
+            counted.lines = 4294967296;
+            return Step {
+                answer: refusal::TOO_MANY_LINES,
+                next: counted,
+            };
+        }
+        counted.lines = lines + 1;
+        if stage == 8 {
+            counted.trace_step(line, stacks, counts)
+        } else {
+            counted.order_step(line, stacks, counts)
+        }
+    }
+
+    // A line that the line buffer cannot hold, however long it is.
+    pub fn long_line(self) -> Step
+        ensures { λ r. ⌜ r ≡ longLine self ⌝ }
+    {
+        let mut counted = self;
+        let lines = self.lines;
+        let stage = self.stage;
+        if lines >= 4294967295 {
+            counted.lines = 4294967296;
+            return Step {
+                answer: refusal::TOO_MANY_LINES,
+                next: counted,
+            };
+        }
+        counted.lines = lines + 1;
+        if stage == 8 {
+            Step {
+                answer: refusal::BAD_TRACE_LINE,
+                next: counted,
+            }
+        } else {
+            Step {
+                answer: refusal::BAD_ORDER_LINE,
+                next: counted,
+            }
+        }
+    }
+
+    // The end of the input.
+    pub fn ended(self) -> Step
+        ensures { λ r. ⌜ r ≡ Reading·ended self ⌝ }
+    {
+        let mut counted = self;
+        let lines = self.lines;
+        let stage = self.stage;
+        if stage == 8 {
+            return Step {
+                answer: refusal::DONE,
+                next: counted,
+            };
+        }
+        if lines < 4294967295 {
+            counted.lines = lines + 1;
+        } else {
+            counted.lines = 4294967296;
+        }
+        Step {
+            answer: refusal::BAD_ORDER_LINE,
+            next: counted,
+        }
+    }
+
+    fn trace_step(self, line: &[u8], stacks: &mut [u32], counts: &mut [u32]) -> Step
+        ensures { λ r. ⌜ stays r (now (stacks .exit)) (now (counts .exit)) ≡ traceStep self (traceLineOf (now (line .entry))) (now (stacks .entry)) (now (counts .entry)) ⌝ }
+    {
+        let read = trace_line(line);
+        match read {
+            TraceLine::Ref(kind, a) => {
+                let kinds = self.kinds;
+                if kinds.counts(kind) {
+                    self.taken(a, stacks, counts)
+                } else {
+                    self.passed()
+                }
+            }
+            TraceLine::Skipped => self.passed(),
+            TraceLine::Refused(answer) => Step { answer, next: self },
+        }
+    }
+
+    fn order_step(self, line: &[u8], stacks: &mut [u32], counts: &mut [u32]) -> Step
+        ensures { λ r. ⌜ stays r (now (stacks .exit)) (now (counts .exit)) ≡ orderStep self (orderLineOf (now (line .entry))) (now (stacks .entry)) (now (counts .entry)) ⌝ }
+    {
+        let read = order_line(line);
+        match read {
+            OrderLine::Bmin(n) => self.number(0, n),
+            OrderLine::Bmax(n) => self.number(1, n),
+            OrderLine::Smax(n) => self.number(2, n),
+            OrderLine::Ways(n) => self.number(3, n),
+            OrderLine::Room(n) => self.number(4, n),
+            OrderLine::Refs(n) => self.number(5, n),
+            OrderLine::Kinds(kinds) => self.counting(kinds),
+            OrderLine::Begin => self.begin(stacks, counts),
+            OrderLine::Refused(answer) => Step { answer, next: self },
+        }
+    }
+
+    // The line is skipped.
+    fn passed(self) -> Step
+        ensures { λ r. ⌜ r ≡ answered done (withSkipped self) ⌝ }
+    {
+        let mut next = self;
+        let skipped = self.skipped;
+        if skipped < 4294967295 {
+            next.skipped = skipped + 1;
+        }
+        Step {
+            answer: refusal::DONE,
+            next,
+        }
+    }
+
+    // The line is a reference that is counted.
+    fn taken(self, a: Addr, stacks: &mut [u32], counts: &mut [u32]) -> Step
+        ensures { λ r. ⌜ stays r (now (stacks .exit)) (now (counts .exit)) ≡ takes self (a .0) (now (stacks .entry)) (now (counts .entry)) ⌝ }
+    {
+        let mut next = self;
+        let opened = self.opened;
+        let reply = opened.take_ref(stacks, counts, a);
+        let state = reply.state;
+        next.opened = state;
+        Step {
+            answer: reply.answer,
+            next,
+        }
+    }
+
+    // One of the order's numbers.
+    fn number(self, place: u32, n: u32) -> Step
+        requires { ⌜ place < 6 ⌝ }
+        ensures { λ r. ⌜ r ≡ numberAt place n self ⌝ }
+    {
+        let mut next = self;
+        let stage = self.stage;
+        if stage != place {
+            return Step {
+                answer: refusal::BAD_ORDER_LINE,
+                next,
+            };
+        }
+        next.numbers[place as usize] = n;
+        next.stage = place + 1;
+        Step {
+            answer: refusal::DONE,
+            next,
+        }
+    }
+
+    // What the order counts.
+    fn counting(self, kinds: Kinds) -> Step
+        ensures { λ r. ⌜ r ≡ kindsAt kinds self ⌝ }
+    {
+        let stage = self.stage;
+        if stage != 6 {
+            return Step {
+                answer: refusal::BAD_ORDER_LINE,
+                next: self,
+            };
+        }
+        let numbers = self.numbers;
+        let opened = self.opened;
+        Step {
+            answer: refusal::DONE,
+            next: Reading {
+                lines: self.lines,
+                stage: 7,
+                numbers,
+                kinds,
+                skipped: self.skipped,
+                opened,
+            },
+        }
+    }
+
+    // The begin line.
+    fn begin(self, stacks: &mut [u32], counts: &mut [u32]) -> Step
+        ensures { λ r. ⌜ stays r (now (stacks .exit)) (now (counts .exit)) ≡ beginAt self (now (stacks .entry)) (now (counts .entry)) ⌝ }
+    {
+        let stage = self.stage;
+        if stage < 6 {
+            return Step {
+                answer: refusal::BAD_ORDER_LINE,
+                next: self,
+            };
+        }
+        if stage > 7 {
+            return Step {
+                answer: refusal::BAD_ORDER_LINE,
+                next: self,
+            };
+        }
+        let numbers = self.numbers;
+        let order = Order {
+            bmin: ByteExp(numbers[0]),
+            bmax: ByteExp(numbers[1]),
+            smax: numbers[2],
+            ways: numbers[3],
+            room: numbers[4],
+            refs: numbers[5],
+        };
+        let reply = Opened::open(order, stacks, counts);
+        let answer = reply.answer;
+        let state = reply.state;
+        let mut next = self;
+        if answer == 0 {
+            next.opened = state;
+            next.stage = 8;
+        }
+        Step { answer, next }
+    }
+}
