@@ -3,3 +3,6 @@ pub mod LookLaws
 pub mod MoveLaws
 pub mod NeedLaws
 pub mod OutcomeLaws
+pub mod RatioExamples
+pub mod RatioLaws
+pub mod RoundingLaws

@@ -2,4 +2,5 @@ pub mod Opening
 pub mod Parts
 pub mod Places
 pub mod Questions
+pub mod Ratios
 pub mod Taking

@@ -1,6 +1,6 @@
-// The opened order: opening, taking a reference, and the question of misses (document 01, "The stack
-// and the counts", "The order's numbers" and "Questions"). Both tables are lent: slices of 32-bit
-// numbers, laid out as that document says.
+// The opened order: opening, taking a reference, and the questions of misses and of the two ratios
+// (document 01, "The stack and the counts", "The order's numbers" and "Questions"). Both tables are
+// lent: slices of 32-bit numbers, laid out as that document says.
 use counting::bump;
 use counting::is_over;
 use counting::raise_all;
@@ -8,6 +8,7 @@ use counting::summed;
 use moving::clear;
 use moving::move_all;
 use order::Order;
+use rating::rated;
 use units::Addr;
 use units::BlockNo;
 use units::ByteExp;
@@ -22,10 +23,12 @@ ghost use Rattle.order.specs.Limits.{sizes};
 ghost use Rattle.taking.specs.Opening.{Opens};
 ghost use Rattle.taking.specs.Taking.{Takes, isForeign};
 ghost use Rattle.taking.specs.Questions.{has as Questions·has, missesOf};
+ghost use Rattle.taking.specs.Ratios.{ratiosOf};
 ghost use Rattle.taking.specs.Parts.{earlyAnswer};
 
 mod counting;
 mod moving;
+mod rating;
 
 // The opened order: the order's numbers, the references taken, and the used length of each stack.
 pub struct Opened {
@@ -44,6 +47,18 @@ pub struct Reply {
 pub struct Counted {
     pub answer: u32,
     pub misses: u32,
+}
+
+// The miss ratio and the traffic ratio of a cache.
+pub struct Ratios {
+    pub miss: f64,
+    pub traffic: f64,
+}
+
+// Both ratios, beside the answer number: zeros where that is not 0.
+pub struct Rated {
+    pub answer: u32,
+    pub ratios: Ratios,
 }
 
 impl Opened {
@@ -212,6 +227,35 @@ impl Opened {
         Counted {
             answer: refusal::DONE,
             misses: (taken - hits) as u32,
+        }
+    }
+
+    // The two ratios of the cache (b, s, w), handed back together.
+    pub fn ratios(self, counts: &[u32], b: ByteExp, s: u32, w: u32) -> Rated
+        ensures { λ r. ⌜ r ≡ ratiosOf self (now (counts .entry)) (b .0) s w ⌝ }
+    {
+        let asked = b.0;
+        let taken = self.taken;
+        let none = Ratios {
+            miss: 0.0,
+            traffic: 0.0,
+        };
+        let counted = self.misses(counts, b, s, w);
+        if counted.answer != refusal::DONE {
+            return Rated {
+                answer: counted.answer,
+                ratios: none,
+            };
+        }
+        if taken == 0 {
+            return Rated {
+                answer: refusal::NO_REFERENCES,
+                ratios: none,
+            };
+        }
+        Rated {
+            answer: refusal::DONE,
+            ratios: rated(counted.misses, taken, asked),
         }
     }
 

@@ -1,0 +1,169 @@
+#!/usr/bin/env python3
+"""Checks simulator.py and library_model.py against the numbers that document 01 prints, and against each other.
+
+Also checks that each vector is what the simulator prints and has its row in README.md.
+"""
+import pathlib
+import random
+import re
+import unittest
+
+import library_model as library
+import simulator
+
+WORKED = [0x0, 0x10, 0x20, 0x0, 0x14, 0x40, 0x0, 0x20]
+ORDER = (4, 5, 2, 4, 8, 100)
+GRID = {  # misses of w = 1, 2, 3, 4, by (b, s)
+    (4, 0): [8, 8, 5, 4], (4, 1): [7, 5, 4, 4], (4, 2): [5, 4, 4, 4],
+    (5, 0): [6, 4, 3, 3], (5, 1): [4, 3, 3, 3], (5, 2): [3, 3, 3, 3],
+}  # fmt: skip
+
+
+def opened(order, addresses):
+    """State, stack and counts after an opening and these references, none of them refused."""
+    answer, state, stack, counts = library.open_(order, [9] * 70, [9] * 70)
+    for address in addresses:
+        assert answer == 0
+        answer, state, stack, counts = library.take(state, stack, counts, address)
+    return answer, state, stack, counts
+
+
+class WorkedTrace(unittest.TestCase):
+    def test_grid(self):
+        _, state, _, counts = opened(ORDER, WORKED)
+        for (b, s), row in GRID.items():
+            for w, missed in enumerate(row, 1):
+                self.assertEqual(simulator.misses(WORKED, b, s, w), missed)
+                self.assertEqual(library.misses(state, counts, b, s, w)[:3], (0, state, missed))
+
+    def test_ratios(self):
+        _, state, _, counts = opened(ORDER, WORKED)
+        self.assertEqual(library.ratios(state, counts, 4, 1, 2)[2], (0.625, 10.0))
+
+    def test_strip(self):
+        kept = [0x0, 0x10, 0x20, 0x40, 0x0]
+        self.assertEqual(simulator.strip(WORKED, 4, 2), kept)
+        self.assertEqual(simulator.strip(WORKED, 4, 0), WORKED)
+        self.assertEqual(library.strip(WORKED, 4, 2, [7] * 5, [8] * 6), (0, 5, [1, 2, 3, 0, 7], kept + [8]))
+
+    def test_two_way_set(self):
+        self.assertEqual(simulator.misses([0, 4, 0, 8, 0], 2, 0, 2), 3)
+        self.assertEqual(simulator.misses([0, 4, 8, 0], 2, 0, 2), 4)
+
+
+class Refusals(unittest.TestCase):
+    def test_opening(self):
+        for order, stack, counts, answer in [
+            ((5, 4, 2, 4, 8, 100), 0, 0, 1), (ORDER, 15, 0, 2), (ORDER, 16, 23, 3),
+        ]:  # fmt: skip
+            self.assertEqual(
+                library.open_(order, [9] * stack, [9] * counts), (answer, library.State(), [9] * stack, [9] * counts)
+            )
+
+    def test_opening_leaves_the_rest(self):
+        _, state, stack, counts = library.open_(ORDER, [9] * 17, [9] * 26)
+        self.assertEqual((stack, counts), ([0] * 16 + [9], [0] * 24 + [9] * 2))
+        self.assertEqual(state, library.State(*ORDER))
+
+    def test_taking(self):
+        order = (4, 4, 0, 2, 2, 3)
+        _, state, stack, counts = opened(order, [0, 16])
+        for foreign, tables, address, answer in [
+            (state._replace(ways=17), (stack, counts), 0, 1),
+            (state, ([0], counts), 0, 2),
+            (state, (stack, [0]), 0, 3),
+            (state._replace(used=(3,) + (0,) * 7), (stack, counts), 0, 4),
+            (state._replace(taken=4), (stack, counts), 0, 4),
+            (state._replace(taken=3), (stack, counts), 32, 5),
+            (state, (stack, counts), 32, 6),
+            (state, (stack, [0, 2]), 0, 7),
+            (state, (stack, [2, 1]), 0, 0),
+        ]:
+            got = library.take(foreign, *tables, address)
+            self.assertEqual(got[0], answer)
+            if answer:
+                self.assertEqual(got[1:], (foreign, *tables))
+
+    def test_full_stack_of_a_larger_block_size(self):
+        state = library.State(4, 5, 0, 1, 2, 9, 2, (1, 2) + (0,) * 6)
+        tables = [3, 0, 7, 8], [0, 0]
+        self.assertEqual(library.take(state, *tables, 3 * 16), (6, state, *tables))
+
+    def test_topmost_of_repeated_blocks(self):
+        state = library.State(4, 4, 0, 4, 4, 9, 3, (4,) + (0,) * 7)
+        self.assertEqual(
+            library.take(state, [5, 1, 2, 1], [0, 0, 0, 0], 16),
+            (0, state._replace(taken=4), [1, 5, 2, 1], [0, 1, 0, 0]),
+        )
+
+    def test_questions(self):
+        _, state, _, counts = opened(ORDER, WORKED)
+        for foreign, table, asked, answer in [
+            (state._replace(refs=0), counts, (4, 0, 1), 1),
+            (state, counts[:23], (4, 0, 1), 3),
+            (state._replace(taken=101), counts, (4, 0, 1), 4),
+            (state, counts, (6, 0, 1), 8),
+            (state, counts, (4, 3, 1), 8),
+            (state, counts, (4, 0, 0), 8),
+            (state, counts, (4, 0, 5), 8),
+            (state, [5] * 24, (4, 0, 2), 7),
+        ]:
+            self.assertEqual(library.misses(foreign, table, *asked), (answer, foreign, 0, table))
+            self.assertEqual(library.ratios(foreign, table, *asked), (answer, foreign, (0.0, 0.0), table))
+        _, state, _, counts = opened(ORDER, [])
+        self.assertEqual(library.ratios(state, counts, 4, 0, 1)[0], 9)
+
+    def test_strip(self):
+        self.assertEqual(library.strip([0], 1, 0, [7], [8]), (1, 0, [7], [8]))
+        self.assertEqual(library.strip([0], 2, 15, [7], [8]), (1, 0, [7], [8]))
+        self.assertEqual(library.strip([0], 2, 1, [7], []), (12, 0, [7], []))
+        self.assertEqual(library.strip([0, 4], 2, 1, [7] * 3, [8]), (13, 0, [0, 0, 7], [8]))
+        self.assertEqual(library.strip([], 2, 1, [7] * 3, [8]), (0, 0, [0, 0, 7], [8]))
+        self.assertEqual(library.strip([0xFFFFFFFF], 2, 0, [7], [8]), (0, 1, [1 << 30], [0xFFFFFFFF]))
+
+    def test_too_many_lines(self):
+        text = b"bmin=4\nbmax=4\nsmax=0\nways=1\nroom=8\nrefs=9\nbegin=din\n2 0\n" + b"x" * 300
+        self.addCleanup(setattr, simulator, "MOST_LINES", simulator.MOST_LINES)
+        self.assertEqual(simulator.sweep(text), b"refused=11 line=9\n")
+        simulator.MOST_LINES = 8
+        self.assertEqual(simulator.sweep(text), b"refused=26 line=9\n")
+
+
+class Agreement(unittest.TestCase):
+    """After an opening the library's answers are those of simulating each cache; seed 1."""
+
+    def test_random_lists(self):
+        rng = random.Random(1)
+        for _ in range(200):
+            bmin, smax, ways = rng.randint(2, 11), rng.randint(0, 3), rng.randint(1, 4)
+            addresses = [rng.randrange(12) << rng.randint(2, 12) for _ in range(30)]
+            _, state, _, counts = opened((bmin, bmin + 1, smax, ways, 30, 30), addresses)
+            for s in range(smax + 1):
+                for b in (bmin, bmin + 1):
+                    for w in range(1, ways + 1):
+                        self.assertEqual(
+                            library.misses(state, counts, b, s, w)[2], simulator.misses(addresses, b, s, w)
+                        )
+                kept = simulator.strip(addresses, bmin, s)
+                self.assertEqual(library.strip(addresses, bmin, s, [1] * 8, [0] * len(kept))[3], kept)
+
+
+class Vectors(unittest.TestCase):
+    HERE = pathlib.Path(__file__).resolve().parent
+
+    def test_outputs(self):
+        for path in self.HERE.glob("vectors/*.in"):
+            self.assertEqual(simulator.sweep(path.read_bytes()), path.with_suffix(".out").read_bytes(), path.stem)
+
+    def test_rows(self):
+        rows = dict(re.findall(r"^\| (\w+) \| (table|\d+ at line \d+) \|", (self.HERE / "README.md").read_text(), re.M))
+        self.assertEqual(sorted(rows), sorted(path.stem for path in self.HERE.glob("vectors/*.in")))
+        self.assertEqual(sorted(rows), sorted(path.stem for path in self.HERE.glob("vectors/*.out")))
+        for name, answer in rows.items():
+            output = (self.HERE / "vectors" / (name + ".out")).read_text()
+            refusal = re.fullmatch(r"refused=(\d+) line=(\d+)\n", output)
+            self.assertEqual(answer, "%s at line %s" % refusal.groups() if refusal else "table", name)
+
+
+if __name__ == "__main__":
+    unittest.main()
