@@ -1,0 +1,42 @@
+// The sweep program: reads an order and a trace from standard input, line by line, and prints the
+// misses of every cache of the order, or the refusal. What it decides is in the crate reading; here are
+// only reading and printing.
+use input::run;
+use libc::STDERR_FILENO;
+use output::refused;
+use output::table;
+
+mod input;
+mod output;
+
+fn main() {
+    let mut stacks = [0u32; 8192];
+    let mut counts = [0u32; 1920];
+    let mut chunk = [0u8; 65536];
+    // One line buffer, zero-filled at the start, serves order lines and trace lines.
+    let mut line = [0u8; 255];
+    let ended = run(&mut chunk, &mut line, &mut stacks, &mut counts);
+    if ended.failed {
+        io::write_all(
+            STDERR_FILENO,
+            b"sweep: standard input could not be read, so no table is printed\n",
+        );
+        return;
+    }
+    let reading = ended.reading;
+    if ended.answer == 0 {
+        if !table(reading, &counts) {
+            io::write_all(
+                STDERR_FILENO,
+                b"sweep: standard output could not be written, so the table is not whole\n",
+            );
+        }
+    } else {
+        if !refused(ended.answer, reading.lines) {
+            io::write_all(
+                STDERR_FILENO,
+                b"sweep: standard output could not be written, so the refusal is not whole\n",
+            );
+        }
+    }
+}
