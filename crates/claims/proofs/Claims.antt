@@ -1,14 +1,15 @@
 -- THE DEMANDS of the order, each stated in full about the functions that ship, and closed by one name. Nothing is proved here.
 -- A function is spoken of by its contract: `Opens` is that of `Opened::open`, `Takes` of `take_ref`, `missesOf` of `misses`, `Strips` of `strip`,
 -- so each claim holds of whatever these functions hand back. The meaning of a cache is crates/cache/specs/Cache.antt. Assumes nothing.
-use Prim.Native.Nat.{ℕ, suc, _+_, _*_, _≤_, _<_}
+use Prim.Native.Nat.{ℕ, suc, _+_, _*_, _^_, _≤_, _<_}
 use mathlib.Core.Path.{_≡_, sym, ap, _∙_, subst}
 use mathlib.Core.Bool.{Bool, true, false, cond, not}
 use mathlib.Core.List.{List, [], _∷_, map}
 use lib.Dec.{eqb, ltb}
 use lib.ListN.{length, take, getD}
 use Rattle.lists.specs.Runs.{Each, without}
-use Rattle.lists.specs.Tests.{firstOf, anyTo}
+use Rattle.lists.specs.Tables.{zeroed}
+use Rattle.lists.specs.Tests.{firstOf, anyTo, allLe}
 use Rattle.cache.specs.Cache.{touchesOf, simulate, isHit, missesOver}
 use Rattle.cache.proofs.InclusionLaws.{HitToo, inclusion}
 use Rattle.cache.proofs.Worked.{trace, grid}
@@ -18,6 +19,8 @@ use Rattle.taking.specs.Places.{stackNeed, countNeed, usedOf}
 use Rattle.taking.specs.Opening.{Opens, fresh, openAnswer}
 use Rattle.taking.specs.Taking.{Takes, isForeign, fullAt, isOver, takeAnswer}
 use Rattle.taking.specs.Questions.{has, hitsOf, missesOf}
+use Rattle.taking.specs.Ratios.{ratiosOf}
+use Rattle.taking.specs.declared.Rated.{Rated}
 use Rattle.taking.specs.declared.Reply.{Reply}
 use Rattle.taking.specs.declared.Opened.{Opened}
 use Rattle.taking.specs.declared.Counted.{Counted}
@@ -26,7 +29,7 @@ use Rattle.strip.specs.Strip.{keptOf, stripLimits, Strips}
 use Rattle.strip.proofs.StripClaims.{left-is-kept, kept-as-before, dropped-hit, misses-same}
 use Rattle.runs.specs.Calls.{World, Call, Calls}
 use Rattle.runs.proofs.CallLaws.{history-after}
-use Rattle.claims.proofs.Outcomes.{opening-refused, taking-refused, misses-promised, answer-promised}
+use Rattle.claims.proofs.Outcomes.{opening-refused, taking-refused, strip-refused, strip-short, strip-untouched, misses-promised, answer-promised}
 
 -- ---- Demand 1: a refusal comes exactly in the case listed for it, and leaves each lent table as listed
 
@@ -55,6 +58,29 @@ demand-1-taking-refused c ne = taking-refused c ne
 pub demand-1-misses : (v : Opened) (ct : List ℕ) (b s w : ℕ) (q : Counted) → q ≡ missesOf v ct b s w
     → q .answer ≡ firstOf ((not (within (v .order)), 1) ∷ (ltb (length ct) (countNeed (v .order)), 3) ∷ (isForeign v, 4) ∷ (not (has (v .order) b s w), 8) ∷ (ltb (v .taken) (hitsOf v ct b s w), 7) ∷ [])
 demand-1-misses v ct b s w q e = ap (λ q. q .answer) e
+
+-- ratios: refused as misses, then with 9 where no references are taken
+pub demand-1-ratios : (v : Opened) (ct : List ℕ) (b s w : ℕ) (q : Rated) → q ≡ ratiosOf v ct b s w
+    → q .answer ≡ firstOf ((not (eqb (missesOf v ct b s w .answer) 0), missesOf v ct b s w .answer) ∷ (eqb (v .taken) 0, 9) ∷ [])
+demand-1-ratios v ct b s w q e = ap (λ q. q .answer) e
+
+-- strip: the first of 1, 12, 13 that applies, else 0
+pub demand-1-strip : {l : List ℕ} {b s : ℕ} {filter out : List ℕ} {r : Stripped} {filter′ out′ : List ℕ} → Strips l b s filter out r filter′ out′
+    → r .answer ≡ firstOf ((not (allLe (stripLimits b s)), 1) ∷ (ltb (length filter) (2 ^ s), 12) ∷ (ltb (length out) (length (keptOf b s l)), 13) ∷ [])
+demand-1-strip c = c .answer
+
+-- a refused strip gives zero and leaves the output; 13 leaves the first 2^s filter entries zero, and the others leave the filter
+pub demand-1-strip-refused : {l : List ℕ} {b s : ℕ} {filter out : List ℕ} {r : Stripped} {filter′ out′ : List ℕ} → Strips l b s filter out r filter′ out′ → (r .answer ≡ 0 → ⊥)
+    → (r .kept ≡ 0) × (out′ ≡ out)
+demand-1-strip-refused c ne = strip-refused c ne
+
+pub demand-1-strip-short : {l : List ℕ} {b s : ℕ} {filter out : List ℕ} {r : Stripped} {filter′ out′ : List ℕ} → Strips l b s filter out r filter′ out′ → r .answer ≡ 13
+    → filter′ ≡ zeroed (2 ^ s) filter
+demand-1-strip-short c e = strip-short c e
+
+pub demand-1-strip-untouched : {l : List ℕ} {b s : ℕ} {filter out : List ℕ} {r : Stripped} {filter′ out′ : List ℕ} → Strips l b s filter out r filter′ out′
+    → (r .answer ≡ 0 → ⊥) → (r .answer ≡ 13 → ⊥) → filter′ ≡ filter
+demand-1-strip-untouched c ne nf = strip-untouched c ne nf
 
 -- ---- Demand 2: from an opening, over every sequence of calls, each handed the state that the one before handed back and the tables untouched
 -- in between, the misses given for each cache of the order are those of simulating that one cache, empty at the start, over the references taken

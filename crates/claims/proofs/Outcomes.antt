@@ -1,10 +1,12 @@
 -- What the contracts and the laws of runs come to, put as the claims say it. Assumes nothing.
-use Prim.Native.Nat.{ℕ, _+_}
+use Prim.Native.Nat.{ℕ, _+_, _^_}
 use mathlib.Core.Path.{_≡_, refl, sym, ap, _∙_, subst}
 use mathlib.Core.Bool.{Bool, true, false, cond}
-use mathlib.Core.List.{List}
+use mathlib.Core.List.{List, _++_}
 use lib.Dec.{eqb}
+use lib.ListN.{drop}
 use borrow.Author.Tests.{ne-eqb}
+use Rattle.lists.specs.Tables.{zeroed}
 use Rattle.cache.specs.Cache.{missesOver}
 use Rattle.order.specs.declared.Order.{Order}
 use Rattle.order.specs.Limits.{zeroOrder}
@@ -14,6 +16,8 @@ use Rattle.taking.specs.Questions.{has, missesOf}
 use Rattle.taking.specs.declared.Reply.{Reply}
 use Rattle.taking.specs.declared.Opened.{Opened}
 use Rattle.taking.specs.declared.Counted.{Counted}
+use Rattle.strip.specs.declared.Stripped.{Stripped}
+use Rattle.strip.specs.Strip.{stripAnswer, entryOf, valuesTo, Strips}
 use Rattle.runs.specs.Calls.{World, Call, Calls}
 use Rattle.runs.proofs.CallLaws.{history-after, order-after}
 use Rattle.runs.proofs.AnswerLaws.{misses-after, answer-after}
@@ -39,6 +43,24 @@ taking-refused {v} {st} {ct} {a} {r} {st′} {ct′} c ne =
       picked (takeAnswer v st ct a) _ _ st′ (c .stacks) refused,
       picked (takeAnswer v st ct a) _ _ ct′ (c .counts) refused,
     )
+
+module _ {l : List ℕ} {b s : ℕ} {filter out : List ℕ} {r : Stripped} {filter′ out′ : List ℕ} (c : Strips l b s filter out r filter′ out′) where
+  pub strip-refused : (r .answer ≡ 0 → ⊥) → (r .kept ≡ 0) × (out′ ≡ out)
+  strip-refused ne =
+      let refused : stripAnswer l b s filter out ≡ 0 → ⊥ = λ z. ne (c .answer ∙ z) in
+      (picked (stripAnswer l b s filter out) _ _ (r .kept) (c .kept) refused, picked (stripAnswer l b s filter out) _ _ out′ (c .output) refused)
+
+  pub strip-short : r .answer ≡ 13 → filter′ ≡ zeroed (2 ^ s) filter
+  strip-short e =
+      c .filter
+      ∙ ap (λ (n : ℕ). cond (eqb n 0) (valuesTo (2 ^ s) (entryOf b s l) ++ drop (2 ^ s) filter) (cond (eqb n 13) (zeroed (2 ^ s) filter) filter)) (sym (c .answer) ∙ e)
+
+  pub strip-untouched : (r .answer ≡ 0 → ⊥) → (r .answer ≡ 13 → ⊥) → filter′ ≡ filter
+  strip-untouched ne nf =
+      c .filter
+      ∙ ap (λ (t : Bool). cond t (valuesTo (2 ^ s) (entryOf b s l) ++ drop (2 ^ s) filter) (cond (eqb (stripAnswer l b s filter out) 13) (zeroed (2 ^ s) filter) filter))
+      (ne-eqb (stripAnswer l b s filter out) 0 (λ z. ne (c .answer ∙ z)))
+      ∙ ap (λ (t : Bool). cond t (zeroed (2 ^ s) filter) filter) (ne-eqb (stripAnswer l b s filter out) 13 (λ z. nf (c .answer ∙ z)))
 
 module _ (o : Order) (st ct : List ℕ) (r : Reply) (st₀ ct₀ : List ℕ) (opens : Opens o st ct r st₀ ct₀) (opened : r .answer ≡ 0)
     (l : List ℕ) (v : World) (calls : Calls (record { state = r .state; stacks = st₀; counts = ct₀ }) l v) where
