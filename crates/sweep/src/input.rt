@@ -1,6 +1,7 @@
 // Standard input, in chunks, cut into lines; and the run over all of them.
 use libc::STDIN_FILENO;
 use reading::Reading;
+use reading::Step;
 ghost use mathlib.Core.Path.{_≡_};
 ghost use Prim.Native.Nat.{_≤_};
 ghost use lib.ListN.{length};
@@ -74,6 +75,22 @@ fn next_line(input: Input, chunk: &mut [u8], line: &mut [u8]) -> Next
     }
 }
 
+// The run is over with this step.
+fn over(step: Step) -> Turn
+    ensures { λ r. ⌜ Kept r ⌝ }
+{
+    let reading = step.next;
+    Turn {
+        over: true,
+        input: Input { at: 0, end: 0 },
+        ended: Ended {
+            failed: false,
+            answer: step.answer,
+            reading,
+        },
+    }
+}
+
 // One line: taken and decided.
 fn one_line(
     reading: Reading,
@@ -101,32 +118,8 @@ fn one_line(
                 },
             }
         }
-        Next::Long => {
-            let step = reading.long_line();
-            let next = step.next;
-            Turn {
-                over: true,
-                input: Input { at: 0, end: 0 },
-                ended: Ended {
-                    failed: false,
-                    answer: step.answer,
-                    reading: next,
-                },
-            }
-        }
-        Next::End => {
-            let step = reading.ended();
-            let next = step.next;
-            Turn {
-                over: true,
-                input: Input { at: 0, end: 0 },
-                ended: Ended {
-                    failed: false,
-                    answer: step.answer,
-                    reading: next,
-                },
-            }
-        }
+        Next::Long => over(reading.long_line()),
+        Next::End => over(reading.ended()),
         Next::Failed => Turn {
             over: true,
             input: Input { at: 0, end: 0 },

@@ -35,11 +35,17 @@ enum-told c = search needs
 long-line-requires : tie.Need-long-line-requires
 long-line-requires c κs = search needs
 
+over-requires : tie.Need-over-requires
+over-requires c κs = search needs
+
 enum-told-2 : tie.Need-enum-told-2
 enum-told-2 c = search needs
 
 ended-requires : tie.Need-ended-requires
 ended-requires c κs = search needs
+
+over-requires-2 : tie.Need-over-requires-2
+over-requires-2 c κs = search needs
 
 enum-told-3 : tie.Need-enum-told-3
 enum-told-3 c = search needs
@@ -99,8 +105,10 @@ one-line-spec =
     step-requires
     enum-told
     long-line-requires
+    over-requires
     enum-told-2
     ended-requires
+    over-requires-2
     enum-told-3
     same-length
     same-length-2
