@@ -35,7 +35,12 @@ use Rattle.claims.proofs.Outcomes.{opening-refused, taking-refused, str
 
 -- opening: the first of 1, 2, 3 that applies, else 0
 pub demand-1-opening : {o : Order} {st ct : List ℕ} {r : Reply} {st′ ct′ : List ℕ} → Opens o st ct r st′ ct′
-    → r .answer ≡ firstOf ((not (within o), 1) ∷ (ltb (length st) (stackNeed o), 2) ∷ (ltb (length ct) (countNeed o), 3) ∷ [])
+    → r .answer
+    ≡ firstOf
+    ((not (within o), 1)
+    ∷ (ltb (length st) (stackNeed o), 2)
+    ∷ (ltb (length ct) (countNeed o), 3)
+    ∷ [])
 demand-1-opening c = c .answer
 
 -- a refused opening hands back a state of zeros and changes no table
@@ -45,8 +50,16 @@ demand-1-opening-refused c ne = opening-refused c ne
 
 -- taking: the first of 1 to 7 that applies, else 0
 pub demand-1-taking : {v : Opened} {st ct : List ℕ} {a : ℕ} {r : Reply} {st′ ct′ : List ℕ} → Takes v st ct a r st′ ct′
-    → r .answer ≡ firstOf ((not (within (v .order)), 1) ∷ (ltb (length st) (stackNeed (v .order)), 2) ∷ (ltb (length ct) (countNeed (v .order)), 3)
-    ∷ (isForeign v, 4) ∷ (eqb (v .taken) (v .order .refs), 5) ∷ (anyTo (sizes (v .order)) (fullAt v st a), 6) ∷ (isOver v st ct a, 7) ∷ [])
+    → r .answer
+    ≡ firstOf
+    ((not (within (v .order)), 1)
+    ∷ (ltb (length st) (stackNeed (v .order)), 2)
+    ∷ (ltb (length ct) (countNeed (v .order)), 3)
+    ∷ (isForeign v, 4)
+    ∷ (eqb (v .taken) (v .order .refs), 5)
+    ∷ (anyTo (sizes (v .order)) (fullAt v st a), 6)
+    ∷ (isOver v st ct a, 7)
+    ∷ [])
 demand-1-taking c = c .answer
 
 -- a refused taking hands back the state it got and changes no table
@@ -56,7 +69,14 @@ demand-1-taking-refused c ne = taking-refused c ne
 
 -- misses: the first of 1, 3, 4, 8, 7 that applies, else 0; zero misses beside a refusal
 pub demand-1-misses : (v : Opened) (ct : List ℕ) (b s w : ℕ) (q : Counted) → q ≡ missesOf v ct b s w
-    → q .answer ≡ firstOf ((not (within (v .order)), 1) ∷ (ltb (length ct) (countNeed (v .order)), 3) ∷ (isForeign v, 4) ∷ (not (has (v .order) b s w), 8) ∷ (ltb (v .taken) (hitsOf v ct b s w), 7) ∷ [])
+    → q .answer
+    ≡ firstOf
+    ((not (within (v .order)), 1)
+    ∷ (ltb (length ct) (countNeed (v .order)), 3)
+    ∷ (isForeign v, 4)
+    ∷ (not (has (v .order) b s w), 8)
+    ∷ (ltb (v .taken) (hitsOf v ct b s w), 7)
+    ∷ [])
 demand-1-misses v ct b s w q e = ap (λ q. q .answer) e
 
 -- ratios: refused as misses, then with 9 where no references are taken
@@ -66,7 +86,12 @@ demand-1-ratios v ct b s w q e = ap (λ q. q .answer) e
 
 -- strip: the first of 1, 12, 13 that applies, else 0
 pub demand-1-strip : {l : List ℕ} {b s : ℕ} {filter out : List ℕ} {r : Stripped} {filter′ out′ : List ℕ} → Strips l b s filter out r filter′ out′
-    → r .answer ≡ firstOf ((not (allLe (stripLimits b s)), 1) ∷ (ltb (length filter) (2 ^ s), 12) ∷ (ltb (length out) (length (keptOf b s l)), 13) ∷ [])
+    → r .answer
+    ≡ firstOf
+    ((not (allLe (stripLimits b s)), 1)
+    ∷ (ltb (length filter) (2 ^ s), 12)
+    ∷ (ltb (length out) (length (keptOf b s l)), 13)
+    ∷ [])
 demand-1-strip c = c .answer
 
 -- a refused strip gives zero and leaves the output; 13 leaves the first 2^s filter entries zero, and the others leave the filter

@@ -14,9 +14,14 @@ use Rattle.taking.specs.Places.{stackNeed, countNeed}
 use Rattle.taking.specs.declared.Opened.{Opened}
 use Rattle.taking.specs.declared.Reply.{Reply}
 
+-- the first of 1, 2, 3 that applies, else 0
 abbrev pub openAnswer : Order → List ℕ → List ℕ → ℕ
 openAnswer o st ct =
-    firstOf ((not (within o), outsideLimits) ∷ (ltb (length st) (stackNeed o), shortStacks) ∷ (ltb (length ct) (countNeed o), shortCounts) ∷ [])
+    firstOf
+    ((not (within o), outsideLimits)
+    ∷ (ltb (length st) (stackNeed o), shortStacks)
+    ∷ (ltb (length ct) (countNeed o), shortCounts)
+    ∷ [])
 
 -- the order with 0 references taken and every used length 0
 abbrev pub fresh : Order → Opened

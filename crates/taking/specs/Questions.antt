@@ -26,10 +26,16 @@ has o b s w = allLe (asked o b s w)
 abbrev pub hitsOf : Opened → List ℕ → ℕ → ℕ → ℕ → ℕ
 hitsOf v ct b s w = sumTo (λ (d : ℕ). getD ct (cell (v .order) (b - v .order .bmin .0) s d) 0) w
 
+-- the first of 1, 3, 4, 8, 7 that applies, else 0
 abbrev pub missesAnswer : Opened → List ℕ → ℕ → ℕ → ℕ → ℕ
 missesAnswer v ct b s w =
-    firstOf ((not (within (v .order)), outsideLimits) ∷ (ltb (length ct) (countNeed (v .order)), shortCounts) ∷ (isForeign v, foreignState)
-    ∷ (not (has (v .order) b s w), notInOrder) ∷ (ltb (v .taken) (hitsOf v ct b s w), countOver) ∷ [])
+    firstOf
+    ((not (within (v .order)), outsideLimits)
+    ∷ (ltb (length ct) (countNeed (v .order)), shortCounts)
+    ∷ (isForeign v, foreignState)
+    ∷ (not (has (v .order) b s w), notInOrder)
+    ∷ (ltb (v .taken) (hitsOf v ct b s w), countOver)
+    ∷ [])
 
 -- the references taken less the hits; zero beside a refusal
 abbrev pub missesOf : Opened → List ℕ → ℕ → ℕ → ℕ → Counted

@@ -29,11 +29,18 @@ fullAt v st a k = not (foundAt v st a k) && leb (v .order .room) (usedOf v k)
 abbrev pub isOver : Opened → List ℕ → List ℕ → ℕ → Bool
 isOver v st ct a = overGroups (v .order .ways) (rows (v .order)) (foundAt v st a) (depthAt v st a) (v .taken) (sizes (v .order)) ct
 
+-- the first of 1 to 7 that applies, else 0
 abbrev pub takeAnswer : Opened → List ℕ → List ℕ → ℕ → ℕ
 takeAnswer v st ct a =
-    firstOf ((not (within (v .order)), outsideLimits) ∷ (ltb (length st) (stackNeed (v .order)), shortStacks)
-    ∷ (ltb (length ct) (countNeed (v .order)), shortCounts) ∷ (isForeign v, foreignState) ∷ (eqb (v .taken) (v .order .refs), refsReached)
-    ∷ (anyTo (sizes (v .order)) (fullAt v st a), stackFull) ∷ (isOver v st ct a, countOver) ∷ [])
+    firstOf
+    ((not (within (v .order)), outsideLimits)
+    ∷ (ltb (length st) (stackNeed (v .order)), shortStacks)
+    ∷ (ltb (length ct) (countNeed (v .order)), shortCounts)
+    ∷ (isForeign v, foreignState)
+    ∷ (eqb (v .taken) (v .order .refs), refsReached)
+    ∷ (anyTo (sizes (v .order)) (fullAt v st a), stackFull)
+    ∷ (isOver v st ct a, countOver)
+    ∷ [])
 
 -- ---- what a taking that is done leaves
 
