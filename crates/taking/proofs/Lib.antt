@@ -6,3 +6,4 @@ pub mod OutcomeLaws
 pub mod RatioExamples
 pub mod RatioLaws
 pub mod RoundingLaws
+pub mod TopLaws

@@ -1,9 +1,9 @@
 -- The loops of `take_ref`: what the walks know on their way, and what they come to. Each break of the walk gives `Left`.
 -- Assumes nothing.
-use Prim.Native.Nat.{ℕ, zero, suc, _+_, _*_, _-_, _≤_, _<_}
-use mathlib.Core.Path.{_≡_, refl, sym, ap, _∙_, subst}
-use mathlib.Core.Bool.{Bool, true, false, cond}
-use mathlib.Core.List.{List, [], _∷_}
+use Prim.Native.Nat.{ℕ, suc, _+_, _*_, _≤_, _<_}
+use mathlib.Core.Path.{_≡_, refl, sym, ap, _∙_}
+use mathlib.Core.Bool.{false, cond}
+use mathlib.Core.List.{List}
 use native.Mathlib.Numerals.{add-one}
 use native.Mathlib.Omega.{arith}
 use lib.Bits.{bitXor}
@@ -11,12 +11,13 @@ use lib.Count.{trailingZeros}
 use lib.Dec.{eqb, leb}
 use lib.ListN.{length, take, drop, getD, set, length-set, length-take, length-drop}
 use lib.Seq.{length-take-le, take-all, getD-take, getD-drop, getD-set-same, getD-set-other}
-use borrow.Author.Tests.{eqb-true, eqb-false, ne-eqb, leb-true, leb-false, le-leb, lt-leb}
+use borrow.Author.Tests.{eq-eqb, eqb-true, eqb-false, ne-eqb, leb-true, leb-false}
 use Rattle.lists.specs.Members.{mem, above, keep}
 use Rattle.lists.proofs.Cases.{cases}
-use Rattle.lists.proofs.MemberLaws.{length-keep, absent-above, found-above, absent-suc, count-suc}
+use Rattle.lists.proofs.MemberLaws.{length-keep, length-keep-le, absent-above, found-above, absent-suc, count-suc}
 use Rattle.cache.specs.Cache.{setOf}
-use Rattle.cache.proofs.SetLaws.{shared}
+use Rattle.cache.specs.Stack.{depth}
+use Rattle.cache.proofs.SetLaws.{set-fewer, shared}
 use Rattle.order.specs.Limits.{sizes}
 use Rattle.taking.specs.Places.{rows, usedOf, stackAt, blockAt, depthAt}
 use Rattle.taking.specs.Parts.{Bumped, Looked, Fit}
@@ -55,8 +56,14 @@ pub length-stack : (v : Opened) (st : List ℕ) (m k : ℕ) → Fit v (length st
 length-stack v st m k f h =
     length-take-le (usedOf v k) (drop (k * v .order .room) st) (rw (length-drop (k * v .order .room) st) (omega (arith, stack-fits v (length st) m k f h, f .13 k h)))
 
-read-stack : (v : Opened) (st : List ℕ) (k i : ℕ) → i < usedOf v k → getD (stackAt v st k) i 0 ≡ getD st (k * v .order .room + i) 0
+pub read-stack : (v : Opened) (st : List ℕ) (k i : ℕ) → i < usedOf v k → getD (stackAt v st k) i 0 ≡ getD st (k * v .order .room + i) 0
 read-stack v st k i h = getD-take (usedOf v k) (drop (k * v .order .room) st) i 0 h ∙ getD-drop (k * v .order .room) st i 0
+
+-- at more sets a block is no deeper
+pub depth-falls : (s t : ℕ) → s ≤ t → (x : ℕ) (l : List ℕ) → depth t x l ≤ depth s x l
+depth-falls s t h x l =
+    length-keep-le (λ y. eqb (setOf t x) (setOf t y)) (λ y. eqb (setOf s x) (setOf s y))
+    (λ y e. eq-eqb (setOf s x) (setOf s y) (set-fewer s t h x y (eqb-true (setOf t x) (setOf t y) e))) (above x l)
 
 module _ (v : Opened) (st : List ℕ) (a m k : ℕ) (f : Fit v (length st) m) (h : k < sizes (v .order)) where
   pub walk-start : (ps ds : List ℕ) → Sizes v st a k ps ds → Walking v st a k 0 ds

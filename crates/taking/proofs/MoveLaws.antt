@@ -2,24 +2,23 @@
 -- Assumes nothing.
 use Prim.Native.Nat.{ℕ, zero, suc, _+_, _-_, _*_, _≤_, _<_}
 use mathlib.Core.Path.{_≡_, refl, sym, ap, _∙_}
-use mathlib.Core.Bool.{Bool, true, false, cond, true≢false}
+use mathlib.Core.Bool.{false, true≢false}
 use mathlib.Core.List.{List, [], _∷_, _++_}
-use native.Mathlib.Nat.{add-sub-cancel-left}
 use native.Mathlib.Numerals.{add-one, sub-one}
 use native.Mathlib.Omega.{arith}
 use lib.Dec.{eqb, ltb, leb·suc-suc}
-use lib.ListN.{length, take, drop, getD, set, length-append, length-take, length-drop, take-append-drop, drop-of-length-le, List·getD-append}
-use lib.Seq.{take-suc, append-snoc, set-at, slice, slice-cons, slice-empty, length-take-le, take-take, take-nil, getD-take}
-use borrow.Author.Tests.{eqb-true, eqb-false, eq-eqb, lt-ltb, le-ltb, ltb-true, ltb-false}
+use lib.ListN.{length, take, drop, getD, set, length-take, length-drop, take-append-drop, drop-of-length-le, List·getD-append}
+use lib.Seq.{take-suc, append-snoc, set-at, slice, slice-cons, slice-empty, length-take-le, take-take, getD-take}
+use borrow.Author.Tests.{lt-ltb, le-ltb, ltb-false}
 use Rattle.lists.specs.Members.{mem, remove, above}
 use Rattle.lists.specs.Tables.{part, writeAt, writtenRows}
 use Rattle.lists.proofs.Cases.{cases}
 use Rattle.lists.proofs.MemberLaws.{length-front, ltb·zero-suc}
 use Rattle.lists.proofs.PartLaws.{drop-rows}
+use Rattle.cache.specs.Cache.{blockOf}
 use Rattle.order.specs.Limits.{sizes}
-use Rattle.taking.specs.Places.{usedOf, stackAt, blockAt}
 use Rattle.taking.specs.Taking.{topped}
-use Rattle.taking.specs.Parts.{front, Fit}
+use Rattle.taking.specs.Parts.{front, toppedBy, Roomed}
 use Rattle.taking.specs.declared.Opened.{Opened}
 
 -- ---- the turns
@@ -139,14 +138,16 @@ topped-le x room q h f =
 abbrev pub Roomy : Opened → List ℕ → ℕ → Type 0
 Roomy v st a = (k : ℕ) → k < sizes (v .order) → length (topped v st a k) ≤ v .order .room
 
-pub roomy-of : (v : Opened) (st : List ℕ) (a m : ℕ) (ps : List ℕ) → Fit v (length st) m
-    → ((k : ℕ) → k < sizes (v .order) → (getD ps k 0 < v .order .room) × (getD ps k 0 ≡ length (above (blockAt v a k) (stackAt v st k)))) → Roomy v st a
-roomy-of v st a m ps f left k h =
-    topped-le (blockAt v a k) (v .order .room) (stackAt v st k) (rw (← left k h .1) (left k h .0)) (omega (arith, length-take (usedOf v k) (drop (k * v .order .room) st), f .13 k h))
+-- the same from plain numbers, where each walk left below room
+module _ (room bmin n : ℕ) (st us ps : List ℕ) (a : ℕ) (left : Roomed n room bmin st us ps a) where
+  pub roomy-of : (k : ℕ) → k < n → length (toppedBy room bmin st us a k) ≤ room
+  roomy-of k h =
+      let q = part (k * room) (getD us k 0) st in
+      topped-le (blockOf (bmin + k) a) room q (rw (← left k h .2) (left k h .1)) (omega (arith, length-take (getD us k 0) (drop (k * room) st), left k h .0))
 
--- what the loop finds at size k, after the stacks before it have changed: the stack as it was
-module _ (v : Opened) (st : List ℕ) (a : ℕ) (need : sizes (v .order) * v .order .room ≤ length st) (roomy : Roomy v st a) (k : ℕ) (h : k < sizes (v .order)) where
-  pub part-same : (t : List ℕ) → t ≡ writtenRows (v .order .room) (topped v st a) k st → (u : ℕ) → u ≡ usedOf v k → part (k * v .order .room) u t ≡ stackAt v st k
-  part-same t e u eu =
-      ap (λ (n : ℕ). part (k * v .order .room) n t) eu
-      ∙ ap (take (usedOf v k)) (ap (drop (k * v .order .room)) e ∙ drop-rows (v .order .room) (topped v st a) st (sizes (v .order)) need roomy k (omega arith))
+  -- what the loop finds at size k, after the stacks before it have changed: the stack as it was
+  pub part-same : n * room ≤ length st → (k : ℕ) → k < n → (t : List ℕ) → t ≡ writtenRows room (toppedBy room bmin st us a) k st
+      → (u : ℕ) → u ≡ getD us k 0 → part (k * room) u t ≡ part (k * room) (getD us k 0) st
+  part-same need k h t e u eu =
+      ap (λ (m : ℕ). part (k * room) m t) eu
+      ∙ ap (take (getD us k 0)) (ap (drop (k * room)) e ∙ drop-rows room (toppedBy room bmin st us a) st n need roomy-of k (omega arith))

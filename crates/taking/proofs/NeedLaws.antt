@@ -1,22 +1,20 @@
 -- What an order within its limits needs of its tables, and what its limits say of a state.
 -- Assumes nothing.
-use Prim.Native.Nat.{ℕ, _+_, _-_, _*_, _≤_, _<_}
-use mathlib.Core.Path.{_≡_, refl, sym, ap, _∙_}
-use mathlib.Core.Bool.{Bool, true, false, cond, not, _||_, true≢false}
+use Prim.Native.Nat.{ℕ, _+_, _*_, _≤_, _<_}
+use mathlib.Core.Path.{_≡_, refl, sym, _∙_}
+use mathlib.Core.Bool.{Bool, true, false, not, _||_, true≢false}
 use native.Mathlib.Nat.{mul-le-mul}
 use native.Mathlib.Omega.{arith}
 use lib.Dec.{eqb, ltb}
-use lib.ListN.{length}
 use borrow.Author.Tests.{not-true, not-false, ltb-false, eqb-false}
 use Rattle.lists.specs.Tests.{All≤, anyTo}
-use Rattle.lists.proofs.Cases.{cases}
 use Rattle.lists.proofs.PartLaws.{row-in, rows-le}
 use Rattle.lists.proofs.TestLaws.{all-facts, none-first, any-not}
 use Rattle.order.specs.declared.Order.{Order}
 use Rattle.order.specs.Limits.{limits, within, sizes}
 use Rattle.taking.specs.Places.{rows, stackNeed, countNeed, usedOf}
 use Rattle.taking.specs.Taking.{isForeign}
-use Rattle.taking.specs.Parts.{earlyAnswer, Fit}
+use Rattle.taking.specs.Parts.{earlyAnswer, Fit, Grid}
 use Rattle.taking.specs.declared.Opened.{Opened}
 
 -- the answer r of `is_within`, tested by `!`
@@ -38,16 +36,25 @@ needs-small o f = (mul-le-mul {n₂ = 8} {m₂ = 1048576} few (omega (arith, f))
     groups : sizes o * rows o ≤ 120
     groups = mul-le-mul {n₂ = 8} {m₂ = 15} few (omega (arith, f))
 
--- the rows of size k, in the tables of an order that fits
-module _ (v : Opened) (n m k : ℕ) (f : Fit v n m) (h : k < sizes (v .order)) where
-  pub rows-small : k * rows (v .order) + rows (v .order) ≤ 120
-  rows-small = omega (arith, row-in k (sizes (v .order)) (rows (v .order)) h, mul-le-mul {n₁ = sizes (v .order)} {m₁ = rows (v .order)} {n₂ = 8} {m₂ = 15} (omega (arith, f)) (omega (arith, f)))
+-- all rows of an order that fits
+pub needs-few : (v : Opened) (n m : ℕ) → Fit v n m → sizes (v .order) * rows (v .order) ≤ 120
+needs-few v n m f = mul-le-mul {n₁ = sizes (v .order)} {m₁ = rows (v .order)} {n₂ = 8} {m₂ = 15} (omega (arith, f)) (omega (arith, f))
 
-  pub rows-fit : (k * rows (v .order) + rows (v .order)) * v .order .ways ≤ m
-  rows-fit = omega (arith, rows-le (k * rows (v .order) + rows (v .order)) (sizes (v .order) * rows (v .order)) (v .order .ways) (row-in k (sizes (v .order)) (rows (v .order)) h), f .12)
+-- the rows of group k, in a table that has room for all
+module _ (n r w m k : ℕ) (g : Grid n r w m) (h : k < n) where
+  pub rows-small : k * r + r ≤ 120
+  rows-small = omega (arith, row-in k n r h, mul-le-mul {n₁ = n} {m₁ = r} {n₂ = 8} {m₂ = 15} (g .0) (g .1))
 
-  pub stack-fits : k * v .order .room + v .order .room ≤ n
-  stack-fits = omega (arith, row-in k (sizes (v .order)) (v .order .room) h, f .11)
+  pub rows-fit : (k * r + r) * w ≤ m
+  rows-fit = omega (arith, rows-le (k * r + r) (n * r) w (row-in k n r h), g .3)
+
+-- the stack of size k, in the table of an order that fits
+pub stack-fits : (v : Opened) (n m k : ℕ) → Fit v n m → k < sizes (v .order) → k * v .order .room + v .order .room ≤ n
+stack-fits v n m k f h = omega (arith, row-in k (sizes (v .order)) (v .order .room) h, f .11)
+
+-- the counts of an order that fits
+pub grid-of : (v : Opened) (n m : ℕ) → Fit v n m → Grid (sizes (v .order)) (rows (v .order)) (v .order .ways) m
+grid-of v n m f = (omega (arith, f), omega (arith, f), f .5, f .12)
 
 or-none : (a b : Bool) → (a || b) ≡ false → (a ≡ false) × (b ≡ false)
 or-none true b e = absurd (true≢false e)

@@ -1,14 +1,14 @@
 -- From what the walks found to the outcome of a taking: the code's tests are the page's, and the answer decides the rest.
 -- Assumes nothing.
-use Prim.Native.Nat.{ℕ, zero, suc, _+_, _*_, _-_, _≤_, _<_}
-use mathlib.Core.Path.{_≡_, refl, sym, ap, _∙_, subst}
-use mathlib.Core.Bool.{Bool, true, false, cond, not, _&&_, _||_, true≢false, false≢true}
-use mathlib.Core.List.{List, [], _∷_}
+use Prim.Native.Nat.{ℕ, zero, suc, _+_, _*_, _≤_, _<_}
+use mathlib.Core.Path.{_≡_, refl, sym, ap, _∙_}
+use mathlib.Core.Bool.{Bool, true, false, cond, not, _&&_, false≢true}
+use mathlib.Core.List.{List}
 use native.Mathlib.Omega.{arith}
 use lib.Dec.{eqb, ltb, leb}
 use lib.ListN.{length, getD, replicate}
-use borrow.Author.Tests.{eq-eqb, ne-eqb, ltb-true, ltb-false, lt-ltb, leb-true, leb-false, le-leb, lt-leb}
-use Rattle.lists.specs.Members.{mem, above}
+use borrow.Author.Tests.{eq-eqb, ne-eqb, ltb-true, lt-ltb, leb-false, lt-leb}
+use Rattle.lists.specs.Members.{above}
 use Rattle.lists.specs.Tables.{overRow, overGroups, raisedGroups}
 use Rattle.lists.specs.Tests.{anyTo}
 use Rattle.lists.proofs.Cases.{cases}
@@ -16,15 +16,15 @@ use Rattle.lists.proofs.MemberLaws.{absent-above}
 use Rattle.lists.proofs.RaiseLaws.{groups-same}
 use Rattle.lists.proofs.TestLaws.{any-same, any-not}
 use Rattle.order.specs.Limits.{sizes, within}
-use Rattle.taking.specs.Places.{rows, stackNeed, countNeed, cell, usedOf, stackAt, blockAt, foundAt, depthAt}
-use Rattle.taking.specs.Taking.{isForeign, fullAt, isOver, takeAnswer, isTaken, stateDone, stacksDone, countsDone, Takes}
-use Rattle.taking.specs.Parts.{earlyAnswer, Fit, Looked, foundBy, deepBy, Raisable}
+use Rattle.taking.specs.Places.{rows, stackNeed, countNeed, usedOf, stackAt, blockAt, foundAt, depthAt}
+use Rattle.taking.specs.Taking.{isForeign, fullAt, isOver, takeAnswer, stateDone, stacksDone, countsDone, Takes}
+use Rattle.taking.specs.Parts.{earlyAnswer, Fit, Looked, foundBy, deepBy, Falling, Raisable, Roomed}
 use Rattle.taking.specs.declared.Opened.{Opened}
-use Rattle.taking.proofs.LookLaws.{length-stack}
+use Rattle.taking.proofs.LookLaws.{length-stack, depth-falls}
 use Rattle.taking.proofs.MoveLaws.{mem-above}
 
 module _ (v : Opened) (st : List ℕ) (a m : ℕ) (ps ds : List ℕ) (f : Fit v (length st) m) (seen : Looked v st a ps ds) where
-  same-found : (k : ℕ) → k < sizes (v .order) → foundBy v ps k ≡ foundAt v st a k
+  same-found : (k : ℕ) → k < sizes (v .order) → foundBy (v .used) ps k ≡ foundAt v st a k
   same-found k h =
       ap (λ (n : ℕ). ltb n (usedOf v k)) (seen .place k h)
       ∙ ap (ltb (length (above (blockAt v a k) (stackAt v st k)))) (sym (length-stack v st m k f h))
@@ -44,10 +44,10 @@ module _ (v : Opened) (st : List ℕ) (a m : ℕ) (ps ds : List ℕ) (f : Fit v 
   pub full-is : anyTo (sizes (v .order)) (λ (k : ℕ). leb (v .order .room) (getD ps k 0)) ≡ anyTo (sizes (v .order)) (fullAt v st a)
   full-is = any-same (sizes (v .order)) (λ (k : ℕ). leb (v .order .room) (getD ps k 0)) (fullAt v st a) same-full
 
-  pub over-is : (ct : List ℕ) → overGroups (v .order .ways) (rows (v .order)) (foundBy v ps) (deepBy ds) (v .taken) (sizes (v .order)) ct ≡ isOver v st ct a
+  pub over-is : (ct : List ℕ) → overGroups (v .order .ways) (rows (v .order)) (foundBy (v .used) ps) (deepBy ds) (v .taken) (sizes (v .order)) ct ≡ isOver v st ct a
   over-is ct =
       any-same (sizes (v .order))
-      (λ (k : ℕ). foundBy v ps k && anyTo (rows (v .order)) (overRow (v .order .ways) (k * rows (v .order)) (deepBy ds k) (v .taken) ct))
+      (λ (k : ℕ). foundBy (v .used) ps k && anyTo (rows (v .order)) (overRow (v .order .ways) (k * rows (v .order)) (deepBy ds k) (v .taken) ct))
       (λ (k : ℕ). foundAt v st a k && anyTo (rows (v .order)) (overRow (v .order .ways) (k * rows (v .order)) (depthAt v st a k) (v .taken) ct))
       (λ k h.
       ap (λ (t : Bool). t && anyTo (rows (v .order)) (overRow (v .order .ways) (k * rows (v .order)) (deepBy ds k) (v .taken) ct)) (same-found k h)
@@ -55,12 +55,20 @@ module _ (v : Opened) (st : List ℕ) (a m : ℕ) (ps ds : List ℕ) (f : Fit v 
       (any-same (rows (v .order)) (overRow (v .order .ways) (k * rows (v .order)) (deepBy ds k) (v .taken) ct) (overRow (v .order .ways) (k * rows (v .order)) (depthAt v st a k) (v .taken) ct)
       (λ s g. ap (λ (n : ℕ). ltb n (v .order .ways) && leb (v .taken) (getD ct ((k * rows (v .order) + s) * v .order .ways + n) 0)) (seen .deep k s h g))))
 
-  pub counts-is : (ct : List ℕ) → raisedGroups (v .order .ways) (rows (v .order)) (foundBy v ps) (deepBy ds) (sizes (v .order)) ct ≡ countsDone v st ct a
-  counts-is ct = groups-same (v .order .ways) (rows (v .order)) (foundBy v ps) (foundAt v st a) (deepBy ds) (depthAt v st a) (sizes (v .order)) ct same-found (seen .deep)
+  pub counts-is : (ct : List ℕ) → raisedGroups (v .order .ways) (rows (v .order)) (foundBy (v .used) ps) (deepBy ds) (sizes (v .order)) ct ≡ countsDone v st ct a
+  counts-is ct = groups-same (v .order .ways) (rows (v .order)) (foundBy (v .used) ps) (foundAt v st a) (deepBy ds) (depthAt v st a) (sizes (v .order)) ct same-found (seen .deep)
 
   pub room-of : anyTo (sizes (v .order)) (λ (k : ℕ). leb (v .order .room) (getD ps k 0)) ≡ false
-      → (k : ℕ) → k < sizes (v .order) → (getD ps k 0 < v .order .room) × (getD ps k 0 ≡ length (above (blockAt v a k) (stackAt v st k)))
-  room-of e k h = (leb-false (v .order .room) (getD ps k 0) (any-not (sizes (v .order)) (λ (k : ℕ). leb (v .order .room) (getD ps k 0)) e k h), seen .place k h)
+      → Roomed (sizes (v .order)) (v .order .room) (v .order .bmin .0) st (v .used) ps a
+  room-of e k h =
+      (f .13 k h, leb-false (v .order .room) (getD ps k 0) (any-not (sizes (v .order)) (λ (k : ℕ). leb (v .order .room) (getD ps k 0)) e k h), seen .place k h)
+
+  pub falling-of : (k : ℕ) → k < sizes (v .order) → Falling (k * 15) (rows (v .order)) ds
+  falling-of k h s t le g e =
+      let shallow = depth-falls s t le (blockAt v a k) (stackAt v st k) in
+      let here = seen .deep k s h (omega arith) in
+      let there = seen .deep k t h g in
+      omega arith
 
 -- a scratch array at its start
 pub getD-zeros : (n i : ℕ) → _≡_ {A = ℕ} (getD (replicate n 0) i 0) 0
@@ -73,14 +81,12 @@ and-false-of true b e h = e
 and-false-of false b e h = absurd (false≢true h)
 
 -- where no count is over, each can go up by one
-pub raisable-of : (v : Opened) (ct : List ℕ) (f : ℕ → Bool) (d : ℕ → ℕ → ℕ) → v .taken ≤ 4294967295
-    → overGroups (v .order .ways) (rows (v .order)) f d (v .taken) (sizes (v .order)) ct ≡ false → Raisable v ct f d
-raisable-of v ct f d small none k s h e g below =
-    let group = and-false-of (f k) (anyTo (rows (v .order)) (overRow (v .order .ways) (k * rows (v .order)) (d k) (v .taken) ct))
-    (any-not (sizes (v .order)) (λ (k : ℕ). f k && anyTo (rows (v .order)) (overRow (v .order .ways) (k * rows (v .order)) (d k) (v .taken) ct)) none k h) e in
-    let row = any-not (rows (v .order)) (overRow (v .order .ways) (k * rows (v .order)) (d k) (v .taken) ct) group s g in
-    let under = leb-false (v .taken) (getD ct (cell (v .order) k s (d k s)) 0)
-    (and-false-of (ltb (d k s) (v .order .ways)) (leb (v .taken) (getD ct (cell (v .order) k s (d k s)) 0)) row (lt-ltb (d k s) (v .order .ways) below)) in
+pub raisable-of : (n r w taken : ℕ) (ct : List ℕ) (f : ℕ → Bool) (d : ℕ → ℕ → ℕ) → taken ≤ 4294967295 → overGroups w r f d taken n ct ≡ false → Raisable n r w ct f d
+raisable-of n r w taken ct f d small none k s h e g below =
+    let group = and-false-of (f k) (anyTo r (overRow w (k * r) (d k) taken ct)) (any-not n (λ (k : ℕ). f k && anyTo r (overRow w (k * r) (d k) taken ct)) none k h) e in
+    let row = any-not r (overRow w (k * r) (d k) taken ct) group s g in
+    let under = leb-false taken (getD ct ((k * r + s) * w + d k s) 0)
+    (and-false-of (ltb (d k s) w) (leb taken (getD ct ((k * r + s) * w + d k s) 0)) row (lt-ltb (d k s) w below)) in
     omega arith
 
 -- ---- the answer

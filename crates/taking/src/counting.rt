@@ -1,15 +1,12 @@
 // The counts: raising them, and what has to be seen before any is raised.
-use crate::Opened;
 ghost use mathlib.Core.Path.{_≡_};
 ghost use Prim.Native.Nat.{ℕ, _+_, _*_, _≤_, _<_};
-ghost use mathlib.Core.Bool.{true};
+ghost use lib.Dec.{leb};
 ghost use lib.ListN.{length, getD};
 ghost use Rattle.lists.specs.Sums.{sumTo};
 ghost use Rattle.lists.specs.Tables.{overRow, overGroups, raisedRows, raisedGroups};
 ghost use Rattle.lists.specs.Tests.{anyTo};
-ghost use Rattle.order.specs.Limits.{sizes};
-ghost use Rattle.taking.specs.Places.{rows as Places·rows};
-ghost use Rattle.taking.specs.Parts.{Bumped, Fit, Raisable, foundBy, deepBy};
+ghost use Rattle.taking.specs.Parts.{Bumped, Falling, Grid, Raisable, foundBy, deepBy};
 
 // In the `rows` depths from `base` on, one more at each s up to `shared`.
 pub(crate) fn bump(depths: &mut [u32], base: usize, rows: usize, shared: usize)
@@ -27,7 +24,8 @@ pub(crate) fn bump(depths: &mut [u32], base: usize, rows: usize, shared: usize)
     }
 }
 
-// Some count to be raised in the `rows` rows from row `first` on is not below `taken`.
+// Some count to be raised in the `rows` rows from row `first` on is not below `taken`. From the first
+// depth of 0 on all are 0, so the rest need not be read.
 fn size_over(
     counts: &[u32],
     first: usize,
@@ -37,12 +35,16 @@ fn size_over(
     rows: usize,
     taken: u32,
 ) -> bool
-    requires { ⌜ ((first + rows) * ways ≤ length (now counts)) × (at + rows ≤ length (now depths)) ⌝ }
+    requires { ⌜ ((first + rows) * ways ≤ length (now counts)) × (1 ≤ ways) × (at + rows ≤ length (now depths)) ⌝ }
+    requires { ⌜ Falling at rows (now depths) ⌝ }
     ensures { λ r. ⌜ r ≡ anyTo rows (overRow ways first (λ (s : ℕ). getD (now (depths .entry)) (at + s) 0) taken (now (counts .entry))) ⌝ }
 {
     let mut s = 0usize;
     while s < rows {
         let d = depths[at + s] as usize;
+        if d == 0 {
+            break;
+        }
         if d < ways {
             if counts[(first + s) * ways + d] >= taken {
                 return true;
@@ -50,21 +52,33 @@ fn size_over(
         }
         s += 1;
     }
+    while s < rows {
+        if counts[(first + s) * ways] >= taken {
+            return true;
+        }
+        s += 1;
+    }
     false
 }
 
 // Some count to be raised is not below the references taken.
-pub(crate) fn is_over(v: Opened, counts: &[u32], n: usize, places: &[u32], depths: &[u32]) -> bool
-    requires { ⌜ Fit v n (length (now counts)) × (length (now places) ≡ 8) × (length (now depths) ≡ 120) ⌝ }
-    ensures { λ r. ⌜ r ≡ overGroups (v .order .ways) (Places·rows (v .order)) (foundBy v (now (places .entry))) (deepBy (now (depths .entry))) (v .taken) (sizes (v .order)) (now (counts .entry)) ⌝ }
+pub(crate) fn is_over(
+    counts: &[u32],
+    used: &[u32],
+    places: &[u32],
+    depths: &[u32],
+    sizes: usize,
+    rows: usize,
+    ways: usize,
+    taken: u32,
+) -> bool
+    requires { ⌜ Grid sizes rows ways (length (now counts)) × (length (now used) ≡ 8) × (length (now places) ≡ 8) × (length (now depths) ≡ 120) ⌝ }
+    requires { ⌜ ((k : ℕ) → k < sizes → Falling (k * 15) rows (now depths)) ⌝ }
+    ensures { λ r. ⌜ r ≡ overGroups ways rows (foundBy (now (used .entry)) (now (places .entry))) (deepBy (now (depths .entry))) taken sizes (now (counts .entry)) ⌝ }
 {
-    let sizes = (v.order.bmax.0 - v.order.bmin.0 + 1) as usize;
-    let rows = (v.order.smax + 1) as usize;
-    let ways = v.order.ways as usize;
-    let taken = v.taken;
     let mut k = 0usize;
     while k < sizes {
-        if places[k] < v.used[k] {
+        if places[k] < used[k] {
             if size_over(counts, k * rows, ways, depths, k * 15, rows, taken) {
                 return true;
             }
@@ -75,37 +89,83 @@ pub(crate) fn is_over(v: Opened, counts: &[u32], n: usize, places: &[u32], depth
 }
 
 // In each of the `rows` rows from row `first` on, one more at the row's depth, where that is below `ways`.
+// From the first depth of 0 on all are 0.
 fn raise(counts: &mut [u32], first: usize, ways: usize, depths: &[u32], at: usize, rows: usize)
-    requires { ⌜ ((first + rows) * ways ≤ length (now counts)) × (at + rows ≤ length (now depths)) ⌝ }
+    requires { ⌜ ((first + rows) * ways ≤ length (now counts)) × (1 ≤ ways) × (at + rows ≤ length (now depths)) ⌝ }
+    requires { ⌜ Falling at rows (now depths) ⌝ }
     requires { ⌜ ((s : ℕ) → s < rows → getD (now depths) (at + s) 0 < ways → getD (now counts) ((first + s) * ways + getD (now depths) (at + s) 0) 0 < 4294967295) ⌝ }
     ensures { λ _. ⌜ now (counts .exit) ≡ raisedRows ways first (λ (s : ℕ). getD (now (depths .entry)) (at + s) 0) rows (now (counts .entry)) ⌝ }
 {
     let mut s = 0usize;
     while s < rows {
         let d = depths[at + s] as usize;
+        if d == 0 {
+            break;
+        }
         if d < ways {
             let i = (first + s) * ways + d;
             counts[i] = counts[i] + 1;
         }
         s += 1;
     }
+    while s < rows {
+        let i = (first + s) * ways;
+        counts[i] = counts[i] + 1;
+        s += 1;
+    }
 }
 
 // The same at every block size where the block is found.
-pub(crate) fn raise_all(v: Opened, counts: &mut [u32], n: usize, places: &[u32], depths: &[u32])
-    requires { ⌜ Fit v n (length (now counts)) × (length (now places) ≡ 8) × (length (now depths) ≡ 120) ⌝ }
-    requires { ⌜ Raisable v (now counts) (foundBy v (now places)) (deepBy (now depths)) ⌝ }
-    ensures { λ _. ⌜ now (counts .exit) ≡ raisedGroups (v .order .ways) (Places·rows (v .order)) (foundBy v (now (places .entry))) (deepBy (now (depths .entry))) (sizes (v .order)) (now (counts .entry)) ⌝ }
+pub(crate) fn raise_all(
+    counts: &mut [u32],
+    used: &[u32],
+    places: &[u32],
+    depths: &[u32],
+    sizes: usize,
+    rows: usize,
+    ways: usize,
+)
+    requires { ⌜ Grid sizes rows ways (length (now counts)) × (length (now used) ≡ 8) × (length (now places) ≡ 8) × (length (now depths) ≡ 120) ⌝ }
+    requires { ⌜ ((k : ℕ) → k < sizes → Falling (k * 15) rows (now depths)) ⌝ }
+    requires { ⌜ Raisable sizes rows ways (now counts) (foundBy (now used) (now places)) (deepBy (now depths)) ⌝ }
+    ensures { λ _. ⌜ now (counts .exit) ≡ raisedGroups ways rows (foundBy (now (used .entry)) (now (places .entry))) (deepBy (now (depths .entry))) sizes (now (counts .entry)) ⌝ }
 {
-    let sizes = (v.order.bmax.0 - v.order.bmin.0 + 1) as usize;
-    let rows = (v.order.smax + 1) as usize;
-    let ways = v.order.ways as usize;
     let mut k = 0usize;
     while k < sizes {
-        if places[k] < v.used[k] {
+        if places[k] < used[k] {
             raise(counts, k * rows, ways, depths, k * 15, rows);
         }
         k += 1;
+    }
+}
+
+// Some count at depth 0 in the first `rows` rows is not below `taken`. No early return: the loop is unrolled then.
+pub(crate) fn tops_over(counts: &[u32], ways: usize, rows: usize, taken: u32) -> bool
+    requires { ⌜ (rows * ways ≤ length (now counts)) × (1 ≤ ways) ⌝ }
+    ensures { λ r. ⌜ r ≡ anyTo rows (λ (s : ℕ). leb taken (getD (now (counts .entry)) (s * ways) 0)) ⌝ }
+{
+    let mut over = false;
+    let mut s = 0usize;
+    while s < rows {
+        if counts[s * ways] >= taken {
+            over = true;
+        }
+        s += 1;
+    }
+    over
+}
+
+// In each of the first `rows` rows, one more at depth 0.
+pub(crate) fn raise_tops(counts: &mut [u32], ways: usize, rows: usize)
+    requires { ⌜ (rows * ways ≤ length (now counts)) × (1 ≤ ways) ⌝ }
+    requires { ⌜ ((s : ℕ) → s < rows → getD (now counts) (s * ways) 0 < 4294967295) ⌝ }
+    ensures { λ _. ⌜ now (counts .exit) ≡ raisedRows ways 0 (λ (s : ℕ). 0) rows (now (counts .entry)) ⌝ }
+{
+    let mut s = 0usize;
+    while s < rows {
+        let i = s * ways;
+        counts[i] = counts[i] + 1;
+        s += 1;
     }
 }
 

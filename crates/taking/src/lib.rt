@@ -4,8 +4,12 @@
 use counting::bump;
 use counting::is_over;
 use counting::raise_all;
+use counting::raise_tops;
 use counting::summed;
+use counting::tops_over;
 use moving::clear;
+use moving::is_full;
+use moving::is_on_top;
 use moving::move_all;
 use order::Order;
 use rating::rated;
@@ -14,12 +18,7 @@ use units::BlockNo;
 use units::ByteExp;
 use units::refusal;
 ghost use mathlib.Core.Path.{_≡_};
-ghost use Prim.Native.Nat.{ℕ, _-_, _≤_, _<_};
-ghost use mathlib.Core.Bool.{true, false};
-ghost use lib.ListN.{length, getD};
-ghost use lib.Dec.{leb};
-ghost use Rattle.lists.specs.Tests.{anyTo};
-ghost use Rattle.order.specs.Limits.{sizes};
+ghost use Prim.Native.Nat.{_-_, _≤_};
 ghost use Rattle.taking.specs.Opening.{Opens};
 ghost use Rattle.taking.specs.Taking.{Takes, isForeign};
 ghost use Rattle.taking.specs.Questions.{has as Questions·has, missesOf};
@@ -118,6 +117,7 @@ impl Opened {
     }
 
     // Takes a reference. All block sizes are looked at before any count is raised or any block moved.
+    // Most references find their block on top of every stack: there each depth is 0 and nothing moves.
     pub fn take_ref(self, stacks: &mut [u32], counts: &mut [u32], a: Addr) -> Reply
         ensures { λ r. ⌜ Takes self (now (stacks .entry)) (now (counts .entry)) (a .0) r (now (stacks .exit)) (now (counts .exit)) ⌝ }
     {
@@ -126,7 +126,10 @@ impl Opened {
         let bmin = order.bmin.0;
         let bmax = order.bmax.0;
         let smax = order.smax;
+        let ways = order.ways as usize;
         let room = order.room as usize;
+        let taken = self.taken;
+        let mut used = self.used;
         let early = self.early(stacks.len(), counts.len());
         if early != 0 {
             return Reply {
@@ -136,16 +139,33 @@ impl Opened {
         }
         let sizes = (bmax - bmin + 1) as usize;
         let rows = (smax + 1) as usize;
+        if is_on_top(stacks, &used, sizes, room, bmin, addr) {
+            if tops_over(counts, ways, sizes * rows, taken) {
+                return Reply {
+                    state: self,
+                    answer: refusal::COUNT_OVER,
+                };
+            }
+            raise_tops(counts, ways, sizes * rows);
+            return Reply {
+                state: Opened {
+                    order,
+                    taken: taken + 1,
+                    used,
+                },
+                answer: refusal::DONE,
+            };
+        }
         let mut places = [0u32; 8];
         let mut depths = [0u32; 120];
         let mut k = 0usize;
         while k < sizes {
             let x = BlockNo(addr >> (bmin + k as u32));
             let base = k * room;
-            let used = self.used[k] as usize;
+            let len = used[k] as usize;
             let mut i = 0usize;
             let place = loop {
-                if i >= used {
+                if i >= len {
                     break i;
                 }
                 let y = BlockNo(stacks[base + i]);
@@ -159,22 +179,26 @@ impl Opened {
             places[k] = place as u32;
             k += 1;
         }
-        if self.is_full(&places) {
+        if is_full(&places, sizes, order.room) {
             return Reply {
                 state: self,
                 answer: refusal::STACK_FULL,
             };
         }
-        if is_over(self, counts, stacks.len(), &places, &depths) {
+        if is_over(counts, &used, &places, &depths, sizes, rows, ways, taken) {
             return Reply {
                 state: self,
                 answer: refusal::COUNT_OVER,
             };
         }
-        raise_all(self, counts, stacks.len(), &places, &depths);
-        let state = move_all(self, stacks, counts.len(), &places, addr);
+        raise_all(counts, &used, &places, &depths, sizes, rows, ways);
+        move_all(stacks, &mut used, &places, sizes, room, bmin, addr);
         Reply {
-            state,
+            state: Opened {
+                order,
+                taken: taken + 1,
+                used,
+            },
             answer: refusal::DONE,
         }
     }
@@ -335,22 +359,5 @@ impl Opened {
             return refusal::REFS_REACHED;
         }
         refusal::DONE
-    }
-
-    // Some walk left at or past room: its block is new and its stack is full.
-    fn is_full(self, places: &[u32]) -> bool
-        requires { ⌜ (self .order .bmin .0 ≤ self .order .bmax .0) × (self .order .bmax .0 - self .order .bmin .0 ≤ 7) × (length (now places) ≡ 8) ⌝ }
-        ensures { λ r. ⌜ r ≡ anyTo (sizes (self .order)) (λ (k : ℕ). leb (self .order .room) (getD (now (places .entry)) k 0)) ⌝ }
-    {
-        let sizes = (self.order.bmax.0 - self.order.bmin.0 + 1) as usize;
-        let room = self.order.room;
-        let mut k = 0usize;
-        while k < sizes {
-            if places[k] >= room {
-                return true;
-            }
-            k += 1;
-        }
-        false
     }
 }

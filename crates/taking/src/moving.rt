@@ -1,15 +1,14 @@
 // The stacks: a block goes to the top of each.
-use crate::Opened;
 ghost use mathlib.Core.Path.{_≡_};
-ghost use Prim.Native.Nat.{ℕ, _+_, _*_, _-_, _≤_, _<_};
+ghost use Prim.Native.Nat.{ℕ, _+_, _*_, _≤_, _<_};
+ghost use mathlib.Core.Bool.{true};
 ghost use mathlib.Core.List.{_∷_};
-ghost use lib.ListN.{length, getD, take};
+ghost use lib.Dec.{leb};
+ghost use lib.ListN.{length, getD};
 ghost use Rattle.lists.specs.Members.{remove, above};
-ghost use Rattle.lists.specs.Tables.{part, writeAt, zeroed};
-ghost use Rattle.order.specs.Limits.{sizes};
-ghost use Rattle.taking.specs.Places.{blockAt, stackAt};
-ghost use Rattle.taking.specs.Taking.{stateDone, stacksDone};
-ghost use Rattle.taking.specs.Parts.{Fit, front};
+ghost use Rattle.lists.specs.Tables.{part, writeAt, writtenRows, setLengths, zeroed};
+ghost use Rattle.lists.specs.Tests.{anyTo};
+ghost use Rattle.taking.specs.Parts.{OnTop, Roomed, front, toppedBy};
 
 // Zeroes the first n entries.
 pub(crate) fn clear(table: &mut [u32], n: usize)
@@ -21,6 +20,46 @@ pub(crate) fn clear(table: &mut [u32], n: usize)
         table[i] = 0;
         i += 1;
     }
+}
+
+// At each of the first `sizes` block sizes the block of address a is on top of its stack.
+pub(crate) fn is_on_top(
+    stacks: &[u32],
+    used: &[u32],
+    sizes: usize,
+    room: usize,
+    bmin: u32,
+    a: u32,
+) -> bool
+    requires { ⌜ (sizes ≤ 8) × (length (now used) ≡ 8) × (sizes * room ≤ length (now stacks)) × (1 ≤ room) × (bmin ≤ 12) ⌝ }
+    ensures { λ r. ⌜ (r ≡ true → OnTop sizes room bmin (now (stacks .entry)) (now (used .entry)) a) ⌝ }
+{
+    let mut k = 0usize;
+    while k < sizes {
+        if used[k] == 0 {
+            return false;
+        }
+        if stacks[k * room] != a >> (bmin + k as u32) {
+            return false;
+        }
+        k += 1;
+    }
+    true
+}
+
+// Some walk left at or past room: its block is new and its stack is full.
+pub(crate) fn is_full(places: &[u32], sizes: usize, room: u32) -> bool
+    requires { ⌜ (sizes ≤ 8) × (length (now places) ≡ 8) ⌝ }
+    ensures { λ r. ⌜ r ≡ anyTo sizes (λ (k : ℕ). leb room (getD (now (places .entry)) k 0)) ⌝ }
+{
+    let mut k = 0usize;
+    while k < sizes {
+        if places[k] >= room {
+            return true;
+        }
+        k += 1;
+    }
+    false
 }
 
 // The first p entries move down one, over the entry at p, and x goes on top.
@@ -50,29 +89,25 @@ fn move_one(stacks: &mut [u32], base: usize, used: usize, p: usize, x: u32) -> u
     }
 }
 
-// Puts the block of address a on top of every stack, and counts the reference.
-pub(crate) fn move_all(v: Opened, stacks: &mut [u32], m: usize, places: &[u32], a: u32) -> Opened
-    requires { ⌜ Fit v (length (now stacks)) m × (v .taken < v .order .refs) × (length (now places) ≡ 8) ⌝ }
-    requires { ⌜ ((k : ℕ) → k < sizes (v .order) → (getD (now places) k 0 < v .order .room) × (getD (now places) k 0 ≡ length (above (blockAt v a k) (stackAt v (now stacks) k)))) ⌝ }
-    ensures { λ r. ⌜ (r ≡ stateDone v (now (stacks .entry)) a) × (now (stacks .exit) ≡ stacksDone v (now (stacks .entry)) a) ⌝ }
+// Puts the block of address a on top of every stack, and sets each stack's used length.
+pub(crate) fn move_all(
+    stacks: &mut [u32],
+    used: &mut [u32],
+    places: &[u32],
+    sizes: usize,
+    room: usize,
+    bmin: u32,
+    a: u32,
+)
+    requires { ⌜ (sizes ≤ 8) × (bmin ≤ 12) × (room ≤ 1048576) × (sizes * room ≤ length (now stacks)) × (length (now used) ≡ 8) × (length (now places) ≡ 8) ⌝ }
+    requires { ⌜ Roomed sizes room bmin (now stacks) (now used) (now places) a ⌝ }
+    ensures { λ _. ⌜ (now (stacks .exit) ≡ writtenRows room (toppedBy room bmin (now (stacks .entry)) (now (used .entry)) a) sizes (now (stacks .entry))) × (now (used .exit) ≡ setLengths (toppedBy room bmin (now (stacks .entry)) (now (used .entry)) a) sizes (now (used .entry))) ⌝ }
 {
-    let bmin = v.order.bmin.0;
-    let sizes = (v.order.bmax.0 - bmin + 1) as usize;
-    let room = v.order.room as usize;
-    let mut next = v;
-    next.taken = v.taken + 1;
     let mut k = 0usize;
     while k < sizes {
         let x = a >> (bmin + k as u32);
-        let used = move_one(
-            stacks,
-            k * room,
-            next.used[k] as usize,
-            places[k] as usize,
-            x,
-        );
-        next.used[k] = used as u32;
+        let len = move_one(stacks, k * room, used[k] as usize, places[k] as usize, x);
+        used[k] = len as u32;
         k += 1;
     }
-    next
 }

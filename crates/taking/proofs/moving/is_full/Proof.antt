@@ -1,32 +1,22 @@
 -- `is_full` meets its contract: no walk passed left at or past room. Assumes nothing.
-use Prim.Native.Nat.{ℕ, _≤_, _<_, _-_}
-use mathlib.Core.Path.{_≡_, refl, sym, ap, _∙_}
+use Prim.Native.Nat.{ℕ, _≤_, _-_}
+use mathlib.Core.Path.{_≡_, sym}
 use mathlib.Core.Bool.{false}
 use native.Mathlib.Omega.{arith}
 use lib.Dec.{leb}
-use lib.ListN.{length, getD}
+use lib.ListN.{getD}
 use borrow.Author.Tests.{le-leb, lt-leb}
 use Rattle.lists.specs.Tests.{anyTo}
 use Rattle.lists.proofs.TestLaws.{any-none, any-more, any-yes, any-ended}
-use Rattle.order.specs.Limits.{sizes}
 use borrow.Author.Needs.{needs}
-use Rattle.taking.proofs.Opened.is_full.Statement.{statement}
-use Rattle.taking.proofs.Opened.is_full.Tie as tie
+use Rattle.taking.proofs.moving.is_full.Statement.{statement}
+use Rattle.taking.proofs.moving.is_full.Tie as tie
 
 abbrev Inv-loop : tie.InvT-loop
 Inv-loop places sizes room k₀ k = (k ≤ sizes) × (anyTo k (λ (j : ℕ). leb room (getD places j 0)) ≡ false)
 
 abbrev μ-loop : tie.MeasureT-loop
 μ-loop places sizes room k₀ k = sizes - k
-
-sub-sizes : tie.Need-sub-sizes Inv-loop μ-loop
-sub-sizes c = search needs
-
-add-sizes : tie.Need-add-sizes Inv-loop μ-loop
-add-sizes c = search needs
-
-cast-sizes : tie.Need-cast-sizes Inv-loop μ-loop
-cast-sizes c = search needs
 
 loop-holds : tie.Need-loop-holds Inv-loop μ-loop
 loop-holds c = (search needs, any-none _)
@@ -39,9 +29,9 @@ shared-slice-read-if1 c = search needs
 
 returns : tie.Need-returns Inv-loop μ-loop
 returns c =
-    let a = c .before .before .before .before .before .args in
+    let a = c .before .before .before .before .args in
     let l = c .before .before .before .loop in
-    sym (any-yes (sizes (a .self .order)) (l .k) (λ (j : ℕ). leb (a .self .order .room) (getD (a .places .now) j 0)) (omega arith) (le-leb _ _ (c .if1 .taken)))
+    sym (any-yes (a .sizes) (l .k) (λ (j : ℕ). leb (a .room) (getD (a .places .now) j 0)) (omega arith) (le-leb _ _ (c .if1 .taken)))
 
 add-k : tie.Need-add-k Inv-loop μ-loop
 add-k c = search needs
@@ -51,15 +41,15 @@ loop-less c = search needs
 
 loop-again : tie.Need-loop-again Inv-loop μ-loop
 loop-again c =
-    let a = c .before .before .before .before .before .args in
+    let a = c .before .before .before .before .args in
     let l = c .before .before .before .loop in
-    (search needs, any-more (l .k) (λ (j : ℕ). leb (a .self .order .room) (getD (a .places .now) j 0)) (l .inv .1) (lt-leb _ _ (c .if1 .left)))
+    (search needs, any-more (l .k) (λ (j : ℕ). leb (a .room) (getD (a .places .now) j 0)) (l .inv .1) (lt-leb _ _ (c .if1 .left)))
 
 returns-2 : tie.Need-returns-2 Inv-loop μ-loop
 returns-2 c =
-    let a = c .before .before .before .args in
+    let a = c .before .before .args in
     let l = c .before .loop in
-    sym (any-ended (sizes (a .self .order)) (l .k) (λ (j : ℕ). leb (a .self .order .room) (getD (a .places .now) j 0)) (omega arith) (omega arith) (l .inv .1))
+    sym (any-ended (a .sizes) (l .k) (λ (j : ℕ). leb (a .room) (getD (a .places .now) j 0)) (omega arith) (omega arith) (l .inv .1))
 
 pub is-full-spec : {M : Type 1} → statement M
 is-full-spec =
@@ -67,9 +57,6 @@ is-full-spec =
     (tie.spec
     Inv-loop
     μ-loop
-    sub-sizes
-    add-sizes
-    cast-sizes
     loop-holds
     mul-if1
     shared-slice-read-if1
