@@ -7,6 +7,7 @@ use mathlib.Core.Bool.{Bool, true, false, cond, not}
 use mathlib.Core.List.{List, [], _∷_, map}
 use lib.Dec.{eqb, ltb}
 use lib.ListN.{length, take, getD}
+use Rattle.lists.specs.Members.{mem}
 use Rattle.lists.specs.Runs.{Each, without}
 use Rattle.lists.specs.Tables.{zeroed}
 use Rattle.lists.specs.Tests.{firstOf, anyTo, allLe}
@@ -27,8 +28,13 @@ use Rattle.taking.specs.declared.Counted.{Counted}
 use Rattle.strip.specs.declared.Stripped.{Stripped}
 use Rattle.strip.specs.Strip.{keptOf, stripLimits, Strips}
 use Rattle.strip.proofs.StripClaims.{left-is-kept, kept-as-before, dropped-hit, misses-same}
+use Rattle.reading.specs.Reading.{Outcome, start}
 use Rattle.runs.specs.Calls.{World, Call, Calls}
+use Rattle.runs.specs.Input.{Runs, headerOf, traceOf, orderIn, referencesOf}
+use Rattle.runs.specs.Endings.{inputEnding}
 use Rattle.runs.proofs.CallLaws.{history-after}
+use Rattle.runs.proofs.EndingLaws.{run-listed}
+use Rattle.runs.proofs.ProgramLaws.{program-answer, program-line, program-misses, program-refs, program-skipped}
 use Rattle.claims.proofs.Outcomes.{opening-refused, taking-refused, strip-refused, strip-short, strip-untouched, misses-promised, answer-promised}
 
 -- ---- Demand 1: a refusal comes exactly in the case listed for it, and leaves each lent table as listed
@@ -107,6 +113,15 @@ pub demand-1-strip-untouched : {l : List ℕ} {b s : ℕ} {filter out : List ℕ
     → (r .answer ≡ 0 → ⊥) → (r .answer ≡ 13 → ⊥) → filter′ ≡ filter
 demand-1-strip-untouched c ne nf = strip-untouched c ne nf
 
+-- the program, over every list of lines, and any tables lent: a run within the contracts of `step`, `long_line` and `ended` ends with the answer,
+-- and at the line, that the lines alone call for (crates/runs/specs/Endings.antt), and that is one of the listed ones
+module _ (st ct : List ℕ) (lines : List (List ℕ)) (o : Outcome) (run : Runs start st ct lines o) where
+  pub demand-1-program : (o .answer ≡ inputEnding st ct [] lines .answer) × (o .next .lines ≡ inputEnding st ct [] lines .line)
+  demand-1-program = (program-answer st ct lines o run, program-line st ct lines o run)
+
+  pub demand-1-listed : mem (o .answer) (0 ∷ 1 ∷ 2 ∷ 3 ∷ 5 ∷ 6 ∷ 10 ∷ 11 ∷ 26 ∷ []) ≡ true
+  demand-1-listed = run-listed st ct lines o run
+
 -- ---- Demand 2: from an opening, over every sequence of calls, each handed the state that the one before handed back and the tables untouched
 -- in between, the misses given for each cache of the order are those of simulating that one cache, empty at the start, over the references taken
 
@@ -127,6 +142,19 @@ module _ (o : Order) (st ct : List ℕ) (r : Reply) (st₀ ct₀ : List ℕ) (op
 
   pub rest-zero : (k j : ℕ) → k < sizes (v .state .order) → usedOf (v .state) k ≤ j → j < v .state .order .room → getD (v .stacks) (k * v .state .order .room + j) 0 ≡ 0
   rest-zero = history-after o st ct r st₀ ct₀ opens opened v l calls .blank
+
+-- so in the program: where the run is done, the misses given for each cache of the order in the lines are those of that one cache over the
+-- references in the lines, which `refs=` counts
+module _ (st ct : List ℕ) (lines : List (List ℕ)) (o : Outcome) (run : Runs start st ct lines o) (done : o .answer ≡ 0) where
+  pub demand-2-program : (b s w : ℕ) → has (orderIn (headerOf lines)) b s w ≡ true → (q : Counted) → q ≡ missesOf (o .next .opened) (o .counts) b s w
+      → (q .answer ≡ 0) × (q .misses ≡ missesOver b s w (referencesOf lines))
+  demand-2-program = program-misses st ct lines o run done
+
+  pub refs-printed : o .next .opened .taken ≡ length (referencesOf lines)
+  refs-printed = program-refs st ct lines o run done
+
+  pub skipped-printed : o .next .opened .taken + o .next .skipped ≡ length (traceOf lines)
+  skipped-printed = program-skipped st ct lines o run done
 
 -- the twelve cases at b = 4
 pub twelve-cases : map (λ s. map (λ w. missesOver 4 s w trace) (1 ∷ 2 ∷ 3 ∷ 4 ∷ [])) (0 ∷ 1 ∷ 2 ∷ [])

@@ -1,4 +1,5 @@
 pub mod ByteLaws
+pub mod CaseLaws
 pub mod Examples
 pub mod OrderLaws
 pub mod TraceLaws

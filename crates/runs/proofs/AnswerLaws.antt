@@ -79,10 +79,10 @@ module _ (v : Opened) (st ct past : List ℕ) (i : History v st ct past) where
     first-in : 0 < sizes (v .order)
     first-in = omega arith
 
-    used-is : (k : ℕ) → k < sizes (v .order) → usedOf v k ≡ length (after stackStep [] (touchesOf (v .order .bmin .0 + k) past))
+    pub used-is : (k : ℕ) → k < sizes (v .order) → usedOf v k ≡ length (after stackStep [] (touchesOf (v .order .bmin .0 + k) past))
     used-is k h = sym (length-at v st ct past i k h) ∙ ap length (i .stack k h)
 
-    found-is : (k : ℕ) → k < sizes (v .order) → foundAt v st a k ≡ mem (blockAt v a k) (after stackStep [] (touchesOf (v .order .bmin .0 + k) past))
+    pub found-is : (k : ℕ) → k < sizes (v .order) → foundAt v st a k ≡ mem (blockAt v a k) (after stackStep [] (touchesOf (v .order .bmin .0 + k) past))
     found-is k h = ap (mem (blockAt v a k)) (i .stack k h)
 
     -- a full stack of larger blocks to which the block is new: the smallest blocks' stack is such a one too
@@ -100,9 +100,15 @@ module _ (v : Opened) (st ct past : List ℕ) (i : History v st ct past) where
         both true f q = absurd (false≢true q)
         both false f q = (refl, q)
 
+    -- 5 where refs is reached, 6 where at some block size the block is new and its stack is full, else done
+    pub answer-by-sizes : takeAnswer v st ct a ≡ cond (eqb (v .taken) (v .order .refs)) 5 (cond (anyTo (sizes (v .order)) (fullAt v st a)) 6 0)
+    answer-by-sizes = simp (fits, long, wide, own, none-over)
+
     -- THE LAW: 5 where refs is reached, 6 where the smallest blocks' stack is full and the block new to it, else done
     pub answer-after : takeAnswer v st ct a ≡ cond (eqb (v .taken) (v .order .refs)) 5 (cond (fullAt v st a 0) 6 0)
-    answer-after = simp (fits, long, wide, own, none-over, any-first (sizes (v .order)) (fullAt v st a) first-in down)
+    answer-after =
+        answer-by-sizes
+        ∙ ap (λ (t : Bool). cond (eqb (v .taken) (v .order .refs)) 5 (cond t 6 0)) (any-first (sizes (v .order)) (fullAt v st a) first-in down)
 
   -- the misses of a cache of the order
   pub misses-after : (b s w : ℕ) → has (v .order) b s w ≡ true → missesOf v ct b s w ≡ record { answer = 0; misses = missesOver b s w past }

@@ -1,0 +1,120 @@
+-- Before the trace, the lines of the numbers and of the kinds: one that is done is the one that comes next of an order. Assumes nothing.
+use Prim.Native.Nat.{ℕ, _+_, _≤_, _<_}
+use mathlib.Core.Path.{_≡_, refl, sym, ap, _∙_, subst}
+use mathlib.Core.Bool.{true, false, cond, true≢false}
+use mathlib.Core.List.{List, [], _∷_, _++_}
+use native.Mathlib.Omega.{arith}
+use lib.Dec.{eqb}
+use lib.ListN.{length, take, getD, set, length-set, length-take}
+use borrow.Author.Tests.{eqb-true}
+use Rattle.lists.proofs.Cases.{both-picked}
+use Rattle.lines.specs.declared.Kinds.{Kinds}
+use Rattle.lines.specs.declared.Kinds.the-variants.{All}
+use Rattle.lines.specs.declared.OrderLine.{OrderLine}
+use Rattle.lines.specs.declared.OrderLine.the-variants.{Bmin, Bmax, Smax, Ways, Room, Refs, Kinds as Counting}
+use Rattle.reading.specs.declared.Reading.{Reading}
+use Rattle.reading.specs.declared.Step.{Step}
+use Rattle.reading.specs.Reading.{Outcome, inTrace, answered, stays, numberAt, kindsAt}
+use Rattle.runs.specs.Input.{isBegin, orderIn, kindsIn}
+use Rattle.runs.proofs.HistoryLaws.{History}
+
+-- the lines of an order's six numbers and of its kinds
+abbrev pub saidBy : List ℕ → Kinds → List OrderLine
+saidBy numbers kinds =
+    Bmin (getD numbers 0 0) ∷ Bmax (getD numbers 1 0) ∷ Smax (getD numbers 2 0) ∷ Ways (getD numbers 3 0) ∷ Room (getD numbers 4 0) ∷ Refs (getD numbers 5 0)
+    ∷ Counting kinds ∷ []
+
+-- what the lines so far read as, in a state before the trace: the stage says how many they are
+pub record Heading (v : Reading) (said : List OrderLine) : Type 0 where
+  pub stage : v .stage ≤ 7
+  pub six : length (v .numbers) ≡ 6
+  pub kinds : v .stage ≤ 6 → v .kinds ≡ All
+  pub reads : said ≡ take (v .stage) (saidBy (v .numbers) (v .kinds))
+  pub skipped : v .skipped ≡ 0
+
+-- the begin line is done: the trace begins, and nothing is taken or skipped yet
+pub record Begun (said : List OrderLine) (o : Outcome) : Type 0 where
+  pub trace : inTrace (o .next) ≡ true
+  pub order : o .next .opened .order ≡ orderIn said
+  pub kinds : o .next .kinds ≡ kindsIn said
+  pub history : History (o .next .opened) (o .stacks) (o .counts) []
+  pub skipped : o .next .skipped ≡ 0
+
+-- the answer to the line l is n
+pub record Headed (st ct : List ℕ) (said : List OrderLine) (l : OrderLine) (n : ℕ) (o : Outcome) : Type 0 where
+  pub answer : o .answer ≡ n
+  pub going : o .answer ≡ 0 → isBegin l ≡ false → Heading (o .next) (said ++ (l ∷ [])) × (o .stacks ≡ st) × (o .counts ≡ ct)
+  pub begun : o .answer ≡ 0 → isBegin l ≡ true → Begun said o
+
+-- six numbers, of which one is set
+six-cases : (P : List ℕ → Type 0) → ((a b c d e f : ℕ) → P (a ∷ b ∷ c ∷ d ∷ e ∷ f ∷ [])) → (l : List ℕ) → length l ≡ 6 → P l
+six-cases P p [] h = absurd (omega arith)
+six-cases P p (a ∷ []) h = absurd (omega arith)
+six-cases P p (a ∷ b ∷ []) h = absurd (omega arith)
+six-cases P p (a ∷ b ∷ c ∷ []) h = absurd (omega arith)
+six-cases P p (a ∷ b ∷ c ∷ d ∷ []) h = absurd (omega arith)
+six-cases P p (a ∷ b ∷ c ∷ d ∷ e ∷ []) h = absurd (omega arith)
+six-cases P p (a ∷ b ∷ c ∷ d ∷ e ∷ f ∷ []) h = p a b c d e f
+six-cases P p (a ∷ b ∷ c ∷ d ∷ e ∷ f ∷ g ∷ l) h = absurd (omega arith)
+
+module _ (v : Reading) (st ct : List ℕ) (said : List OrderLine) (h : Heading v said) where
+  pub so-far : (n : ℕ) → v .stage ≡ n → said ≡ take n (saidBy (v .numbers) (v .kinds))
+  so-far n at = h .reads ∙ ap (λ (m : ℕ). take m (saidBy (v .numbers) (v .kinds))) at
+
+  pub stage-is : v .stage ≡ length said
+  stage-is = omega (arith, h .stage, ap length (h .reads) ∙ length-take (v .stage) (saidBy (v .numbers) (v .kinds)))
+
+  pub few-said : length said ≤ 7
+  few-said = omega (arith, h .stage, stage-is)
+
+  pub refuses : (l : OrderLine) → Headed st ct said l 10 (stays (answered 10 v) st ct)
+  refuses l = record { answer = refl; going = λ e. absurd (omega arith); begun = λ e. absurd (omega arith) }
+
+  pub number-headed : (place n : ℕ) (l : OrderLine) → place < 6 → isBegin l ≡ false
+      → ((a b c d e f : ℕ) (k : Kinds) → take place (saidBy (a ∷ b ∷ c ∷ d ∷ e ∷ f ∷ []) k) ++ (l ∷ []) ≡ take (place + 1) (saidBy (set (a ∷ b ∷ c ∷ d ∷ e ∷ f ∷ []) place n) k))
+      → Headed st ct said l (cond (eqb (length said) place) 0 10) (stays (numberAt place n v) st ct)
+  number-headed place n l p other placed =
+      subst (λ (m : ℕ). Headed st ct said l (cond (eqb m place) 0 10) (stays (numberAt place n v) st ct)) stage-is
+      (both-picked (λ (m : ℕ) (s : Step). Headed st ct said l m (stays s st ct)) (eqb (v .stage) place)
+      (λ e.
+      let at = eqb-true (v .stage) place e in
+      record {
+        answer = refl;
+        going = λ z f. (
+          record {
+            stage = omega arith;
+            six = length-set (v .numbers) place n ∙ h .six;
+            kinds = λ g. h .kinds (omega arith);
+            reads = ap (λ (s : List OrderLine). s ++ (l ∷ [])) (so-far place at)
+                ∙ six-cases (λ (x : List ℕ). take place (saidBy x (v .kinds)) ++ (l ∷ []) ≡ take (place + 1) (saidBy (set x place n) (v .kinds))) (λ a b c d e f. placed a b c d e f (v .kinds)) (v .numbers) (h .six);
+            skipped = h .skipped;
+          },
+          refl,
+          refl,
+        );
+        begun = λ z f. absurd (true≢false (sym f ∙ other));
+      })
+      (λ e. refuses l))
+
+  pub kinds-headed : (k : Kinds) → Headed st ct said (Counting k) (cond (eqb (length said) 6) 0 10) (stays (kindsAt k v) st ct)
+  kinds-headed k =
+      subst (λ (m : ℕ). Headed st ct said (Counting k) (cond (eqb m 6) 0 10) (stays (kindsAt k v) st ct)) stage-is
+      (both-picked (λ (m : ℕ) (s : Step). Headed st ct said (Counting k) m (stays s st ct)) (eqb (v .stage) 6)
+      (λ e.
+      let at = eqb-true (v .stage) 6 e in
+      record {
+        answer = refl;
+        going = λ z f. (
+          record {
+            stage = omega arith;
+            six = h .six;
+            kinds = λ g. absurd (omega arith);
+            reads = ap (λ (s : List OrderLine). s ++ (Counting k ∷ [])) (so-far 6 at);
+            skipped = h .skipped;
+          },
+          refl,
+          refl,
+        );
+        begun = λ z f. absurd (true≢false (sym f));
+      })
+      (λ e. refuses (Counting k)))

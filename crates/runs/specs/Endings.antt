@@ -1,0 +1,95 @@
+-- Where the program's input ends, told from its lines alone: the cases of document 01, "Refusal numbers", with no state and no table's contents.
+-- Assumes nothing.
+use Prim.Native.Nat.{ℕ, _+_}
+use mathlib.Core.Bool.{Bool, false, cond, not, _&&_, _||_}
+use mathlib.Core.List.{List, [], _∷_, _++_}
+use lib.Dec.{eqb, leb}
+use lib.ListN.{length}
+use Rattle.lists.specs.Members.{mem}
+use Rattle.lists.specs.Runs.{after}
+use Rattle.lists.specs.Tests.{firstOf, anyTo}
+use Rattle.cache.specs.Cache.{blockOf, touchesOf}
+use Rattle.cache.specs.Stack.{stackStep}
+use Rattle.units.specs.Refusals.{done, refsReached, stackFull, badOrderLine, badTraceLine, tooManyLines}
+use Rattle.order.specs.declared.Order.{Order}
+use Rattle.order.specs.Limits.{sizes}
+use Rattle.taking.specs.Opening.{openAnswer}
+use Rattle.lines.specs.declared.Kinds.{Kinds}
+use Rattle.lines.specs.declared.OrderLine.{OrderLine}
+use Rattle.lines.specs.declared.OrderLine.the-variants.{Bmin, Bmax, Smax, Ways, Room, Refs, Kinds as Counting, Begin, Refused as BadOrder}
+use Rattle.lines.specs.declared.TraceLine.{TraceLine}
+use Rattle.lines.specs.declared.TraceLine.the-variants.{Ref, Skipped, Refused as BadTrace}
+use Rattle.lines.specs.OrderLine.{orderLineOf, countsKind}
+use Rattle.lines.specs.TraceLine.{traceLineOf}
+use Rattle.runs.specs.Input.{isBegin, orderIn, kindsIn, addressOf}
+
+-- the answer, and its line: that of the refusal, or the last where the answer is 0
+pub record Ending : Type 0 where
+  pub answer : ℕ
+  pub line : ℕ
+
+abbrev pub endsAt : ℕ → ℕ → Ending
+endsAt answer line = record { answer = answer; line = line }
+
+-- the numbers of the program, and 0
+abbrev pub listed : List ℕ
+listed = 0 ∷ 1 ∷ 2 ∷ 3 ∷ 5 ∷ 6 ∷ 10 ∷ 11 ∷ 26 ∷ []
+
+-- ---- in the trace
+
+-- the distinct blocks of 2^b bytes that were seen, most recent first
+abbrev pub seenIn : ℕ → List ℕ → List ℕ
+seenIn b past = after stackStep [] (touchesOf b past)
+
+-- at the block size b the block of the next reference is new, and its stack is full
+abbrev pub isFullAfter : Order → List ℕ → ℕ → ℕ → Bool
+isFullAfter o past a b = not (mem (blockOf b a) (seenIn b past)) && leb (o .room) (length (seenIn b past))
+
+-- after the references `past`, one more
+abbrev pub refAnswer : Order → List ℕ → ℕ → ℕ
+refAnswer o past a = firstOf ((eqb (length past) (o .refs), refsReached) ∷ (anyTo (sizes o) (λ (k : ℕ). isFullAfter o past a (o .bmin .0 + k)), stackFull) ∷ [])
+
+abbrev pub traceAnswer : Order → Kinds → List ℕ → TraceLine → ℕ
+traceAnswer o kinds past (Ref kind a) = cond (countsKind kinds kind) (refAnswer o past (a .0)) done
+traceAnswer o kinds past Skipped = done
+traceAnswer o kinds past (BadTrace n) = badTraceLine
+
+-- the line after n others: 26 is decided before it is read
+abbrev pub nextAnswer : Order → Kinds → List ℕ → ℕ → List ℕ → ℕ
+nextAnswer o kinds past n line = cond (leb 4294967295 n) tooManyLines (traceAnswer o kinds past (traceLineOf line))
+
+-- after n lines and the references `past`, the lines that are left
+unfoldable pub traceEnding : Order → Kinds → List ℕ → ℕ → List (List ℕ) → Ending
+traceEnding o kinds past n [] = endsAt done n
+traceEnding o kinds past n (line ∷ more) =
+    cond (eqb (nextAnswer o kinds past n line) 0)
+    (traceEnding o kinds (past ++ addressOf kinds (traceLineOf line)) (n + 1) more)
+    (endsAt (nextAnswer o kinds past n line) (n + 1))
+
+-- ---- before it
+
+-- a line has its place, after so many others; `begin=` has two, since `kinds=` is optional
+abbrev pub isInPlace : ℕ → OrderLine → Bool
+isInPlace n (Bmin value) = eqb n 0
+isInPlace n (Bmax value) = eqb n 1
+isInPlace n (Smax value) = eqb n 2
+isInPlace n (Ways value) = eqb n 3
+isInPlace n (Room value) = eqb n 4
+isInPlace n (Refs value) = eqb n 5
+isInPlace n (Counting kinds) = eqb n 6
+isInPlace n Begin = eqb n 6 || eqb n 7
+isInPlace n (BadOrder answer) = false
+
+-- after lines that read as `said`, one more: limits and tables are checked at the begin line
+abbrev pub orderAnswer : List ℕ → List ℕ → List OrderLine → OrderLine → ℕ
+orderAnswer st ct said l = cond (isInPlace (length said) l) (cond (isBegin l) (openAnswer (orderIn said) st ct) done) badOrderLine
+
+-- after lines that read as `said`, the lines that are left: a missing begin line is refused one past the last
+unfoldable pub inputEnding : List ℕ → List ℕ → List OrderLine → List (List ℕ) → Ending
+inputEnding st ct said [] = endsAt badOrderLine (length said + 1)
+inputEnding st ct said (line ∷ more) =
+    cond (eqb (orderAnswer st ct said (orderLineOf line)) 0)
+    (cond (isBegin (orderLineOf line))
+    (traceEnding (orderIn said) (kindsIn said) [] (length said + 1) more)
+    (inputEnding st ct (said ++ (orderLineOf line ∷ [])) more))
+    (endsAt (orderAnswer st ct said (orderLineOf line)) (length said + 1))
