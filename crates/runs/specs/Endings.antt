@@ -45,10 +45,11 @@ seenIn b past = after stackStep [] (touchesOf b past)
 abbrev pub isFullAfter : Order → List ℕ → ℕ → ℕ → Bool
 isFullAfter o past a b = not (mem (blockOf b a) (seenIn b past)) && leb (o .room) (length (seenIn b past))
 
--- after the references `past`, one more
+-- one more reference after `past`: 5 where the references taken equal refs, 6 where at some block size the block is new and its stack is full
 abbrev pub refAnswer : Order → List ℕ → ℕ → ℕ
 refAnswer o past a = firstOf ((eqb (length past) (o .refs), refsReached) ∷ (anyTo (sizes o) (λ (k : ℕ). isFullAfter o past a (o .bmin .0 + k)), stackFull) ∷ [])
 
+-- a line of the trace: only a reference of a kind that is counted is taken
 abbrev pub traceAnswer : Order → Kinds → List ℕ → TraceLine → ℕ
 traceAnswer o kinds past (Ref kind a) = cond (countsKind kinds kind) (refAnswer o past (a .0)) done
 traceAnswer o kinds past Skipped = done
@@ -58,7 +59,7 @@ traceAnswer o kinds past (BadTrace n) = badTraceLine
 abbrev pub nextAnswer : Order → Kinds → List ℕ → ℕ → List ℕ → ℕ
 nextAnswer o kinds past n line = cond (leb 4294967295 n) tooManyLines (traceAnswer o kinds past (traceLineOf line))
 
--- after n lines and the references `past`, the lines that are left
+-- the lines that are left, after n lines of the input and the references `past`
 unfoldable pub traceEnding : Order → Kinds → List ℕ → ℕ → List (List ℕ) → Ending
 traceEnding o kinds past n [] = endsAt done n
 traceEnding o kinds past n (line ∷ more) =
@@ -80,11 +81,11 @@ isInPlace n (Counting kinds) = eqb n 6
 isInPlace n Begin = eqb n 6 || eqb n 7
 isInPlace n (BadOrder answer) = false
 
--- after lines that read as `said`, one more: limits and tables are checked at the begin line
+-- one more line, after those that read as `said`: 10 where it is malformed or out of place; limits and tables are checked at the begin line
 abbrev pub orderAnswer : List ℕ → List ℕ → List OrderLine → OrderLine → ℕ
 orderAnswer st ct said l = cond (isInPlace (length said) l) (cond (isBegin l) (openAnswer (orderIn said) st ct) done) badOrderLine
 
--- after lines that read as `said`, the lines that are left: a missing begin line is refused one past the last
+-- the lines that are left, after those that read as `said`: a missing begin line is refused one past the last
 unfoldable pub inputEnding : List ℕ → List ℕ → List OrderLine → List (List ℕ) → Ending
 inputEnding st ct said [] = endsAt badOrderLine (length said + 1)
 inputEnding st ct said (line ∷ more) =
