@@ -35,7 +35,7 @@ use Rattle.runs.specs.Endings.{inputEnding}
 use Rattle.runs.proofs.CallLaws.{history-after}
 use Rattle.runs.proofs.EndingLaws.{run-listed}
 use Rattle.runs.proofs.ProgramLaws.{program-answer, program-line, program-misses, program-refs, program-skipped}
-use Rattle.claims.proofs.Outcomes.{opening-refused, taking-refused, strip-refused, strip-short, strip-untouched, misses-promised, answer-promised}
+use Rattle.claims.proofs.Outcomes.{opening-refused, taking-refused, strip-refused, strip-short, strip-untouched, misses-promised, answer-promised, neither-4-nor-7, smallest-decides}
 
 -- ---- Demand 1: a refusal comes exactly in the case listed for it, and leaves each lent table as listed
 
@@ -131,8 +131,16 @@ module _ (o : Order) (st ct : List ℕ) (r : Reply) (st₀ ct₀ : List ℕ) (op
       → (q .answer ≡ 0) × (q .misses ≡ missesOver b s w l)
   demand-2 = misses-promised o st ct r st₀ ct₀ opens opened l v calls
 
-  -- the next taking is refused with 5 exactly where refs is reached, with 6 exactly where the stack of the smallest blocks is full and the block
-  -- new to it, and with nothing else: so 4 and 7 never come, and 6 is decided by the smallest block size alone
+  -- 4 and 7 never come
+  pub never-4-nor-7 : (a : ℕ) (n : ℕ) (v′ : World) → Call v a n v′ → (n ≡ 4 → ⊥) × (n ≡ 7 → ⊥)
+  never-4-nor-7 = neither-4-nor-7 o st ct r st₀ ct₀ opens opened l v calls
+
+  -- 6 is decided by the smallest block size alone
+  pub smallest-decides-6 : (a : ℕ) → anyTo (sizes (v .state .order)) (fullAt (v .state) (v .stacks) a) ≡ fullAt (v .state) (v .stacks) a 0
+  smallest-decides-6 = smallest-decides o st ct r st₀ ct₀ opens opened l v calls
+
+  -- so the next taking is refused with 5 exactly where refs is reached, with 6 exactly where the stack of the smallest blocks is full and the
+  -- block new to it, and with nothing else
   pub only-5-and-6 : (a : ℕ) (n : ℕ) (v′ : World) → Call v a n v′ → n ≡ cond (eqb (v .state .taken) (v .state .order .refs)) 5 (cond (fullAt (v .state) (v .stacks) a 0) 6 0)
   only-5-and-6 = answer-promised o st ct r st₀ ct₀ opens opened l v calls
 

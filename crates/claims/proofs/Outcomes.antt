@@ -5,11 +5,13 @@ use mathlib.Core.Bool.{Bool, true, false, cond}
 use mathlib.Core.List.{List, _++_}
 use lib.Dec.{eqb}
 use lib.ListN.{drop}
+use native.Mathlib.Omega.{arith}
 use borrow.Author.Tests.{ne-eqb}
 use Rattle.lists.specs.Tables.{zeroed}
+use Rattle.lists.specs.Tests.{anyTo}
 use Rattle.cache.specs.Cache.{missesOver}
 use Rattle.order.specs.declared.Order.{Order}
-use Rattle.order.specs.Limits.{zeroOrder}
+use Rattle.order.specs.Limits.{sizes, zeroOrder}
 use Rattle.taking.specs.Opening.{Opens, fresh, openAnswer}
 use Rattle.taking.specs.Taking.{Takes, fullAt, takeAnswer}
 use Rattle.taking.specs.Questions.{has, missesOf}
@@ -20,7 +22,7 @@ use Rattle.strip.specs.declared.Stripped.{Stripped}
 use Rattle.strip.specs.Strip.{stripAnswer, entryOf, valuesTo, Strips}
 use Rattle.runs.specs.Calls.{World, Call, Calls}
 use Rattle.runs.proofs.CallLaws.{history-after, order-after}
-use Rattle.runs.proofs.AnswerLaws.{misses-after, answer-after}
+use Rattle.runs.proofs.AnswerLaws.{misses-after, answer-after, full-by-smallest}
 
 -- what is picked by an answer that is not 0
 picked : {A : Type 0} (n : ℕ) (x y z : A) → z ≡ cond (eqb n 0) x y → (n ≡ 0 → ⊥) → z ≡ y
@@ -75,3 +77,14 @@ module _ (o : Order) (st ct : List ℕ) (r : Reply) (st₀ ct₀ : List ℕ) (op
   pub answer-promised : (a : ℕ) (n : ℕ) (v′ : World) → Call v a n v′ → n ≡ cond (eqb (v .state .taken) (v .state .order .refs)) 5 (cond (fullAt (v .state) (v .stacks) a 0) 6 0)
   answer-promised a n v′ c =
       sym (c .answer) ∙ c .takes .answer ∙ answer-after (v .state) (v .stacks) (v .counts) l (history-after o st ct r st₀ ct₀ opens opened v l calls) a
+
+  pub neither-4-nor-7 : (a : ℕ) (n : ℕ) (v′ : World) → Call v a n v′ → (n ≡ 4 → ⊥) × (n ≡ 7 → ⊥)
+  neither-4-nor-7 a n v′ c = apart (eqb (v .state .taken) (v .state .order .refs)) (fullAt (v .state) (v .stacks) a 0) (answer-promised a n v′ c)
+    where
+      apart : (t u : Bool) → n ≡ cond t 5 (cond u 6 0) → (n ≡ 4 → ⊥) × (n ≡ 7 → ⊥)
+      apart true u e = (λ z. omega arith, λ z. omega arith)
+      apart false true e = (λ z. omega arith, λ z. omega arith)
+      apart false false e = (λ z. omega arith, λ z. omega arith)
+
+  pub smallest-decides : (a : ℕ) → anyTo (sizes (v .state .order)) (fullAt (v .state) (v .stacks) a) ≡ fullAt (v .state) (v .stacks) a 0
+  smallest-decides a = full-by-smallest (v .state) (v .stacks) (v .counts) l (history-after o st ct r st₀ ct₀ opens opened v l calls) a

@@ -104,11 +104,15 @@ module _ (v : Opened) (st ct past : List ℕ) (i : History v st ct past) where
     pub answer-by-sizes : takeAnswer v st ct a ≡ cond (eqb (v .taken) (v .order .refs)) 5 (cond (anyTo (sizes (v .order)) (fullAt v st a)) 6 0)
     answer-by-sizes = simp (fits, long, wide, own, none-over)
 
+    -- 6 is decided by the smallest block size alone
+    pub full-by-smallest : anyTo (sizes (v .order)) (fullAt v st a) ≡ fullAt v st a 0
+    full-by-smallest = any-first (sizes (v .order)) (fullAt v st a) first-in down
+
     -- THE LAW: 5 where refs is reached, 6 where the smallest blocks' stack is full and the block new to it, else done
     pub answer-after : takeAnswer v st ct a ≡ cond (eqb (v .taken) (v .order .refs)) 5 (cond (fullAt v st a 0) 6 0)
     answer-after =
         answer-by-sizes
-        ∙ ap (λ (t : Bool). cond (eqb (v .taken) (v .order .refs)) 5 (cond t 6 0)) (any-first (sizes (v .order)) (fullAt v st a) first-in down)
+        ∙ ap (λ (t : Bool). cond (eqb (v .taken) (v .order .refs)) 5 (cond t 6 0)) full-by-smallest
 
   -- the misses of a cache of the order
   pub misses-after : (b s w : ℕ) → has (v .order) b s w ≡ true → missesOf v ct b s w ≡ record { answer = 0; misses = missesOver b s w past }
