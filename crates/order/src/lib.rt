@@ -3,7 +3,7 @@
 use units::ByteExp;
 use units::refusal;
 ghost use mathlib.Core.Path.{_≡_};
-ghost use Rattle.order.specs.Limits.{within, Checks};
+ghost use Rattle.order.specs.Limits.{within, zeroOrder, Checks};
 
 // What is asked for: block sizes of 2^bmin to 2^bmax bytes, 2^0 to 2^smax sets, 1 to `ways` ways; `room`
 // entries in each stack, and at most `refs` references.
@@ -115,15 +115,22 @@ impl Order {
         } else {
             Checked {
                 answer: refusal::OUTSIDE_LIMITS,
-                order: Order {
-                    bmin: ByteExp(0),
-                    bmax: ByteExp(0),
-                    smax: 0,
-                    ways: 0,
-                    room: 0,
-                    refs: 0,
-                },
+                order: Order::none(),
             }
+        }
+    }
+
+    // Zeros, beside a refusal.
+    pub fn none() -> Order
+        ensures { λ r. ⌜ r ≡ zeroOrder ⌝ }
+    {
+        Order {
+            bmin: ByteExp(0),
+            bmax: ByteExp(0),
+            smax: 0,
+            ways: 0,
+            room: 0,
+            refs: 0,
         }
     }
 }

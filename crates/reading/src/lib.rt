@@ -11,11 +11,14 @@ use units::Addr;
 use units::ByteExp;
 use units::refusal;
 ghost use mathlib.Core.Path.{_≡_};
-ghost use Rattle.reading.specs.Reading.{start as Reading·start, answered, stays, withSkipped, numberAt, kindsAt, beginAt, takes, orderStep, traceStep, Steps, longLine, ended as Reading·ended};
+ghost use Rattle.reading.specs.Reading.{start as Reading·start, answered, stays, withLines, withSkipped, numberAt, kindsAt, beginAt, takes, orderStep, traceStep, Steps, longLine, ended as Reading·ended};
 ghost use Rattle.units.specs.Refusals.{done};
-ghost use Prim.Native.Nat.{_<_};
+ghost use Prim.Native.Nat.{_<_, _+_, min};
 ghost use Rattle.lines.specs.OrderLine.{orderLineOf};
 ghost use Rattle.lines.specs.TraceLine.{traceLineOf};
+
+// The lines that an input may have.
+const LINES_MOST: u64 = 4294967295;
 
 // How far the input is read.
 pub struct Reading {
@@ -47,18 +50,7 @@ impl Reading {
             numbers: [0; 6],
             kinds: Kinds::All,
             skipped: 0,
-            opened: Opened {
-                order: Order {
-                    bmin: ByteExp(0),
-                    bmax: ByteExp(0),
-                    smax: 0,
-                    ways: 0,
-                    room: 0,
-                    refs: 0,
-                },
-                taken: 0,
-                used: [0; 8],
-            },
+            opened: Opened::none(),
         }
     }
 
@@ -66,17 +58,15 @@ impl Reading {
     pub fn step(self, line: &[u8], stacks: &mut [u32], counts: &mut [u32]) -> Step
         ensures { λ r. ⌜ Steps self (now (line .entry)) (now (stacks .entry)) (now (counts .entry)) r (now (stacks .exit)) (now (counts .exit)) ⌝ }
     {
-        let mut counted = self;
-        let lines = self.lines;
-        let stage = self.stage;
-        if lines >= 4294967295 {
-            counted.lines = 4294967296;
+        let counted = self.counted();
+        let lines = counted.lines;
+        let stage = counted.stage;
+        if lines > LINES_MOST {
             return Step {
                 answer: refusal::TOO_MANY_LINES,
                 next: counted,
             };
         }
-        counted.lines = lines + 1;
         if stage == 8 {
             counted.trace_step(line, stacks, counts)
         } else {
@@ -88,17 +78,15 @@ impl Reading {
     pub fn long_line(self) -> Step
         ensures { λ r. ⌜ r ≡ longLine self ⌝ }
     {
-        let mut counted = self;
-        let lines = self.lines;
-        let stage = self.stage;
-        if lines >= 4294967295 {
-            counted.lines = 4294967296;
+        let counted = self.counted();
+        let lines = counted.lines;
+        let stage = counted.stage;
+        if lines > LINES_MOST {
             return Step {
                 answer: refusal::TOO_MANY_LINES,
                 next: counted,
             };
         }
-        counted.lines = lines + 1;
         if stage == 8 {
             Step {
                 answer: refusal::BAD_TRACE_LINE,
@@ -116,24 +104,31 @@ impl Reading {
     pub fn ended(self) -> Step
         ensures { λ r. ⌜ r ≡ Reading·ended self ⌝ }
     {
-        let mut counted = self;
-        let lines = self.lines;
         let stage = self.stage;
         if stage == 8 {
             return Step {
                 answer: refusal::DONE,
-                next: counted,
+                next: self,
             };
-        }
-        if lines < 4294967295 {
-            counted.lines = lines + 1;
-        } else {
-            counted.lines = 4294967296;
         }
         Step {
             answer: refusal::BAD_ORDER_LINE,
-            next: counted,
+            next: self.counted(),
         }
+    }
+
+    // One line more is read, up to one more than an input may have.
+    fn counted(self) -> Reading
+        ensures { λ r. ⌜ r ≡ withLines (min (self .lines + 1) 4294967296) self ⌝ }
+    {
+        let mut next = self;
+        let lines = self.lines;
+        if lines < LINES_MOST {
+            next.lines = lines + 1;
+        } else {
+            next.lines = LINES_MOST + 1;
+        }
+        next
     }
 
     fn trace_step(self, line: &[u8], stacks: &mut [u32], counts: &mut [u32]) -> Step

@@ -1,7 +1,7 @@
--- The turns of `bump`: what holds after s of its turns, and what that comes to where it stops.
+-- The turns of `bump`: what holds after s of its turns, and what that comes to where it ends.
 -- Assumes nothing.
-use Prim.Native.Nat.{ℕ, _+_, _≤_, _<_}
-use mathlib.Core.Path.{_≡_, refl, sym, ap, _∙_}
+use Prim.Native.Nat.{ℕ, _+_, _≤_, _<_, min}
+use mathlib.Core.Path.{_≡_, refl, ap, _∙_}
 use mathlib.Core.List.{List}
 use native.Mathlib.Omega.{arith}
 use lib.Dec.{eqb}
@@ -11,20 +11,18 @@ use borrow.Author.Tests.{eqb-true, eqb-false}
 use Rattle.lists.proofs.Cases.{cases}
 use Rattle.taking.specs.Parts.{Bumped}
 
--- s places from base on have one more, none of them past `shared`, and the others are as they were
-pub record Bumping (base shared s : ℕ) (old new : List ℕ) : Type 0 where
-  pub reached : s ≤ shared + 1
+-- s places from base on have one more, and the others are as they were
+pub record Bumping (base s : ℕ) (old new : List ℕ) : Type 0 where
   pub more : (t : ℕ) → t < s → getD new (base + t) 0 ≡ getD old (base + t) 0 + 1
   pub before : (i : ℕ) → i < base → getD new i 0 ≡ getD old i 0
   pub past : (i : ℕ) → base + s ≤ i → getD new i 0 ≡ getD old i 0
 
-pub bump-start : (base shared : ℕ) (l : List ℕ) → Bumping base shared 0 l l
-bump-start base shared l = record { reached = omega arith; more = λ t h. absurd (omega arith); before = λ i h. refl; past = λ i h. refl }
+pub bump-start : (base : ℕ) (l : List ℕ) → Bumping base 0 l l
+bump-start base l = record { more = λ t h. absurd (omega arith); before = λ i h. refl; past = λ i h. refl }
 
-module _ (base shared s : ℕ) (old new : List ℕ) (b : Bumping base shared s old new) where
-  pub bump-more : s ≤ shared → base + s < length new → Bumping base shared (s + 1) old (set new (base + s) (getD new (base + s) 0 + 1))
-  bump-more h long = record {
-    reached = omega arith;
+module _ (base s : ℕ) (old new : List ℕ) (b : Bumping base s old new) where
+  pub bump-more : base + s < length new → Bumping base (s + 1) old (set new (base + s) (getD new (base + s) 0 + 1))
+  bump-more long = record {
     more = more;
     before = λ i f. getD-set-other new (base + s) i (getD new (base + s) 0 + 1) 0 (λ e. omega arith) ∙ b .before i f;
     past = λ i f. getD-set-other new (base + s) i (getD new (base + s) 0 + 1) 0 (λ e. omega arith) ∙ b .past i (omega arith);
@@ -40,20 +38,11 @@ module _ (base shared s : ℕ) (old new : List ℕ) (b : Bumping base shared s o
           let q : t ≡ s → ⊥ = eqb-false t s e in
           getD-set-other new (base + s) (base + t) (getD new (base + s) 0 + 1) 0 (λ z. q (omega arith)) ∙ b .more t (omega (arith, q)))
 
-  -- stopped past `shared`
-  pub bump-stop : (n : ℕ) → shared < s → s ≤ n → Bumped base n shared old new
-  bump-stop n h f = record {
+  -- all n places done, or those up to `shared`
+  pub bump-end : (n shared : ℕ) → s ≡ min n (shared + 1) → Bumped base n shared old new
+  bump-end n shared e = record {
     more = λ t g u. b .more t (omega arith);
-    less = λ t g u. b .past (base + t) (omega (arith, b .reached));
+    less = λ t g u. b .past (base + t) (omega arith);
     before = b .before;
     past = λ i g. b .past i (omega arith);
-  }
-
-  -- all n places done
-  pub bump-end : Bumped base s shared old new
-  bump-end = record {
-    more = λ t g u. b .more t g;
-    less = λ t g u. absurd (omega (arith, b .reached));
-    before = b .before;
-    past = b .past;
   }

@@ -14,11 +14,12 @@ pub(crate) fn bump(depths: &mut [u32], base: usize, rows: usize, shared: usize)
     requires { ⌜ ((s : ℕ) → s < rows → getD (now depths) (base + s) 0 < 4294967295) ⌝ }
     ensures { λ _. ⌜ Bumped base rows shared (now (depths .entry)) (now (depths .exit)) ⌝ }
 {
+    let mut end = rows;
+    if shared < rows {
+        end = shared + 1;
+    }
     let mut s = 0usize;
-    while s < rows {
-        if s > shared {
-            return;
-        }
+    while s < end {
         depths[base + s] = depths[base + s] + 1;
         s += 1;
     }

@@ -19,7 +19,8 @@ use units::ByteExp;
 use units::refusal;
 ghost use mathlib.Core.Path.{_≡_};
 ghost use Prim.Native.Nat.{_-_, _≤_};
-ghost use Rattle.taking.specs.Opening.{Opens};
+ghost use Rattle.order.specs.Limits.{zeroOrder};
+ghost use Rattle.taking.specs.Opening.{Opens, fresh};
 ghost use Rattle.taking.specs.Taking.{Takes, isForeign};
 ghost use Rattle.taking.specs.Questions.{has as Questions·has, missesOf};
 ghost use Rattle.taking.specs.Ratios.{ratiosOf};
@@ -65,18 +66,7 @@ impl Opened {
     pub fn open(order: Order, stacks: &mut [u32], counts: &mut [u32]) -> Reply
         ensures { λ r. ⌜ Opens order (now (stacks .entry)) (now (counts .entry)) r (now (stacks .exit)) (now (counts .exit)) ⌝ }
     {
-        let none = Opened {
-            order: Order {
-                bmin: ByteExp(0),
-                bmax: ByteExp(0),
-                smax: 0,
-                ways: 0,
-                room: 0,
-                refs: 0,
-            },
-            taken: 0,
-            used: [0; 8],
-        };
+        let none = Opened::none();
         let bmin = order.bmin.0;
         let bmax = order.bmax.0;
         let smax = order.smax;
@@ -113,6 +103,17 @@ impl Opened {
                 used: [0; 8],
             },
             answer: refusal::DONE,
+        }
+    }
+
+    // Zeros: no order opened yet, or one refused.
+    pub fn none() -> Opened
+        ensures { λ r. ⌜ r ≡ fresh zeroOrder ⌝ }
+    {
+        Opened {
+            order: Order::none(),
+            taken: 0,
+            used: [0; 8],
         }
     }
 
@@ -346,10 +347,12 @@ impl Opened {
         }
         let sizes = (bmax - bmin + 1) as usize;
         let rows = (smax + 1) as usize;
-        if n < sizes * room {
+        let stack_need = sizes * room;
+        let count_need = sizes * rows * ways;
+        if n < stack_need {
             return refusal::SHORT_STACKS;
         }
-        if m < sizes * rows * ways {
+        if m < count_need {
             return refusal::SHORT_COUNTS;
         }
         if self.is_foreign() {

@@ -7,6 +7,9 @@ use Rattle.order.proofs.Order.new.Tie as tie
 is-within-requires : tie.Need-is-within-requires
 is-within-requires c κs = search needs
 
+none-requires : tie.Need-none-requires
+none-requires c κs = search needs
+
 returns : tie.Need-returns
 returns c =
     let fits = sym (c .before .is-within .ensures) ∙ c .if1 .taken in
@@ -14,8 +17,8 @@ returns c =
 
 returns-2 : tie.Need-returns-2
 returns-2 c =
-    let fails = sym (c .before .is-within .ensures) ∙ c .if1 .left in
-    record { answer = simp fails; order = simp fails }
+    let fails = sym (c .before .before .is-within .ensures) ∙ c .before .if1 .left in
+    record { answer = simp fails; order = simp fails (c .none .ensures) }
 
 pub new-spec : {M : Type 1} → statement M
-new-spec = tie.close (tie.spec is-within-requires returns returns-2)
+new-spec = tie.close (tie.spec is-within-requires none-requires returns returns-2)

@@ -1,16 +1,25 @@
 -- `step` meets its contract: 26 first, then the stage decides. Assumes nothing.
-use mathlib.Core.Path.{_≡_, refl, sym, ap, _∙_}
-use native.Mathlib.Omega.{arith}
-use borrow.Author.Tests.{eq-eqb, ne-eqb, le-leb, lt-leb}
+use Prim.Native.Nat.{ℕ}
+use mathlib.Core.Path.{_≡_, sym, ap, _∙_}
+use borrow.Author.Tests.{eq-eqb, ne-eqb}
 use borrow.Author.Needs.{needs}
+use Rattle.units.specs.Refusals.{tooManyLines}
+use Rattle.lines.specs.TraceLine.{traceLineOf}
+use Rattle.lines.specs.OrderLine.{orderLineOf}
+use Rattle.reading.specs.declared.Reading.{Reading}
+use Rattle.reading.specs.Reading.{answered, stays, traceStep, orderStep}
+use Rattle.reading.proofs.CountLaws.{one-too-many, one-more}
 use Rattle.reading.proofs.Reading.step.Statement.{statement}
 use Rattle.reading.proofs.Reading.step.Tie as tie
 
-returns : tie.Need-returns
-returns c = let v = c .before .before .before .before .args .self in simp (le-leb 4294967295 (v .lines) (c .if1 .taken))
+counted-requires : tie.Need-counted-requires
+counted-requires c κs = search needs
 
-add-counted : tie.Need-add-counted
-add-counted c = search needs
+returns : tie.Need-returns
+returns c =
+    let a = c .before .before .before .before .before .args in
+    let f = one-too-many (a .self) _ (c .before .counted .ensures) (c .if1 .taken) in
+    simp (f .0) (ap (λ (r : Reading). stays (answered tooManyLines r) (a .stacks .now) (a .counts .now)) (f .1))
 
 trace-step-requires : tie.Need-trace-step-requires
 trace-step-requires c κs = search needs
@@ -26,8 +35,11 @@ same-length-2 c = search needs
 
 returns-2 : tie.Need-returns-2
 returns-2 c =
-    let v = c .before .before .before .before .before .before .before .before .before .before .before .before .args .self in
-    simp (lt-leb 4294967295 (v .lines) (c .before .before .before .before .before .before .before .before .if1 .left), eq-eqb (v .stage) 8 (c .before .before .before .before .before .before .before .if2 .taken)) (c .before .before .before .before .trace-step .ensures)
+    let a = c .before .before .before .before .before .before .before .before .before .before .before .before .before .args in
+    let f = one-more (a .self) _ (c .before .before .before .before .before .before .before .before .before .counted .ensures) (c .before .before .before .before .before .before .before .before .if1 .left) in
+    let stage = sym (ap (λ (r : Reading). r .stage) (f .1)) ∙ c .before .before .before .before .before .before .before .if2 .taken in
+    simp (f .0, eq-eqb (a .self .stage) 8 stage)
+    (c .before .before .before .before .trace-step .ensures ∙ ap (λ (r : Reading). traceStep r (traceLineOf (a .line .now)) (a .stacks .now) (a .counts .now)) (f .1))
 
 same-length-3 : tie.Need-same-length-3
 same-length-3 c = search needs
@@ -37,15 +49,18 @@ same-length-4 c = search needs
 
 returns-3 : tie.Need-returns-3
 returns-3 c =
-    let v = c .before .before .before .before .before .before .before .before .before .before .before .before .args .self in
-    simp (lt-leb 4294967295 (v .lines) (c .before .before .before .before .before .before .before .before .if1 .left), ne-eqb (v .stage) 8 (c .before .before .before .before .before .before .before .if2 .left)) (c .before .before .before .before .order-step .ensures)
+    let a = c .before .before .before .before .before .before .before .before .before .before .before .before .before .args in
+    let f = one-more (a .self) _ (c .before .before .before .before .before .before .before .before .before .counted .ensures) (c .before .before .before .before .before .before .before .before .if1 .left) in
+    let stage : a .self .stage ≡ 8 → ⊥ = λ e. c .before .before .before .before .before .before .before .if2 .left (ap (λ (r : Reading). r .stage) (f .1) ∙ e) in
+    simp (f .0, ne-eqb (a .self .stage) 8 stage)
+    (c .before .before .before .before .order-step .ensures ∙ ap (λ (r : Reading). orderStep r (orderLineOf (a .line .now)) (a .stacks .now) (a .counts .now)) (f .1))
 
 pub step-spec : {M : Type 1} → statement M
 step-spec =
     tie.close
     (tie.spec
+    counted-requires
     returns
-    add-counted
     trace-step-requires
     order-step-requires
     same-length

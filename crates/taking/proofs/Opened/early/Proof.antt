@@ -46,26 +46,26 @@ add-rows c =
 cast-rows : tie.Need-cast-rows
 cast-rows c = search needs
 
-mul-if2 : tie.Need-mul-if2
-mul-if2 c =
+mul-stack-need : tie.Need-mul-stack-need
+mul-stack-need c =
+    let a = c .before .before .before .before .before .args in
+    let f = within-yes (a .self .order) _ (c .before .is-within .ensures) (c .if1 .left) in
+    omega (arith, f, needs-small (a .self .order) f)
+
+mul-count-need : tie.Need-mul-count-need
+mul-count-need c =
+    let a = c .before .before .before .before .before .args in
+    let f = within-yes (a .self .order) _ (c .before .is-within .ensures) (c .if1 .left) in
+    omega (arith, f, needs-small (a .self .order) f)
+
+mul-count-need-2 : tie.Need-mul-count-need-2
+mul-count-need-2 c =
     let a = c .before .before .before .before .before .args in
     let f = within-yes (a .self .order) _ (c .before .is-within .ensures) (c .if1 .left) in
     omega (arith, f, needs-small (a .self .order) f)
 
 returns-2 : tie.Need-returns-2
 returns-2 c = let a = c .before .before .before .before .before .before .args in simp (within-test (a .self .order) _ (c .before .before .is-within .ensures) (c .before .if1 .left), lt-ltb (a .n) (stackNeed (a .self .order)) (c .if2 .taken))
-
-mul-if3 : tie.Need-mul-if3
-mul-if3 c =
-    let a = c .before .before .before .before .before .before .args in
-    let f = within-yes (a .self .order) _ (c .before .before .is-within .ensures) (c .before .if1 .left) in
-    omega (arith, f, needs-small (a .self .order) f)
-
-mul-if3-2 : tie.Need-mul-if3-2
-mul-if3-2 c =
-    let a = c .before .before .before .before .before .before .args in
-    let f = within-yes (a .self .order) _ (c .before .before .is-within .ensures) (c .before .if1 .left) in
-    omega (arith, f, needs-small (a .self .order) f)
 
 returns-3 : tie.Need-returns-3
 returns-3 c = let a = c .before .before .before .before .before .before .before .args in simp (within-test (a .self .order) _ (c .before .before .before .is-within .ensures) (c .before .before .if1 .left), le-ltb (a .n) (stackNeed (a .self .order)) (c .before .if2 .left), lt-ltb (a .m) (countNeed (a .self .order)) (c .if3 .taken))
@@ -107,10 +107,10 @@ early-spec =
     cast-sizes
     add-rows
     cast-rows
-    mul-if2
+    mul-stack-need
+    mul-count-need
+    mul-count-need-2
     returns-2
-    mul-if3
-    mul-if3-2
     returns-3
     is-foreign-requires
     returns-4

@@ -11,6 +11,9 @@ use borrow.Author.Needs.{needs}
 use Rattle.taking.proofs.Opened.open.Statement.{statement}
 use Rattle.taking.proofs.Opened.open.Tie as tie
 
+none-requires : tie.Need-none-requires
+none-requires c κs = search needs
+
 cast-ways : tie.Need-cast-ways
 cast-ways c = search needs
 
@@ -22,19 +25,19 @@ is-within-requires c κs = search needs
 
 returns : tie.Need-returns
 returns c =
-    let a = c .before .before .before .before .before .before .args in
+    let a = c .before .before .before .before .before .before .before .args in
     let out = within-no (a .order) _ (c .before .is-within .ensures) (c .if1 .taken) in
-    record { answer = simp (out); state = simp (out); stacks = simp (out); counts = simp (out) }
+    record { answer = simp (out); state = simp (out) (c .before .before .before .before .none .ensures); stacks = simp (out); counts = simp (out) }
 
 sub-sizes : tie.Need-sub-sizes
 sub-sizes c =
-    let a = c .before .before .before .before .before .before .args in
+    let a = c .before .before .before .before .before .before .before .args in
     let f = within-yes (a .order) _ (c .before .is-within .ensures) (c .if1 .left) in
     omega (arith, f)
 
 add-sizes : tie.Need-add-sizes
 add-sizes c =
-    let a = c .before .before .before .before .before .before .args in
+    let a = c .before .before .before .before .before .before .before .args in
     let f = within-yes (a .order) _ (c .before .is-within .ensures) (c .if1 .left) in
     omega (arith, f)
 
@@ -43,7 +46,7 @@ cast-sizes c = search needs
 
 add-rows : tie.Need-add-rows
 add-rows c =
-    let a = c .before .before .before .before .before .before .args in
+    let a = c .before .before .before .before .before .before .before .args in
     let f = within-yes (a .order) _ (c .before .is-within .ensures) (c .if1 .left) in
     omega (arith, f)
 
@@ -52,36 +55,36 @@ cast-rows c = search needs
 
 mul-stack-need : tie.Need-mul-stack-need
 mul-stack-need c =
-    let a = c .before .before .before .before .before .before .args in
+    let a = c .before .before .before .before .before .before .before .args in
     let f = within-yes (a .order) _ (c .before .is-within .ensures) (c .if1 .left) in
     omega (arith, f, needs-small (a .order) f)
 
 mul-count-need : tie.Need-mul-count-need
 mul-count-need c =
-    let a = c .before .before .before .before .before .before .args in
+    let a = c .before .before .before .before .before .before .before .args in
     let f = within-yes (a .order) _ (c .before .is-within .ensures) (c .if1 .left) in
     omega (arith, f, needs-small (a .order) f)
 
 mul-count-need-2 : tie.Need-mul-count-need-2
 mul-count-need-2 c =
-    let a = c .before .before .before .before .before .before .args in
+    let a = c .before .before .before .before .before .before .before .args in
     let f = within-yes (a .order) _ (c .before .is-within .ensures) (c .if1 .left) in
     omega (arith, f, needs-small (a .order) f)
 
 returns-2 : tie.Need-returns-2
 returns-2 c =
-    let a = c .before .before .before .before .before .before .before .args in
+    let a = c .before .before .before .before .before .before .before .before .args in
     let fits = within-test (a .order) _ (c .before .before .is-within .ensures) (c .before .if1 .left) in
     let short = lt-ltb (length (a .stacks .now)) (stackNeed (a .order)) (c .if2 .taken) in
-    record { answer = simp (fits, short); state = simp (fits, short); stacks = simp (fits, short); counts = simp (fits, short) }
+    record { answer = simp (fits, short); state = simp (fits, short) (c .before .before .before .before .before .none .ensures); stacks = simp (fits, short); counts = simp (fits, short) }
 
 returns-3 : tie.Need-returns-3
 returns-3 c =
-    let a = c .before .before .before .before .before .before .before .before .args in
+    let a = c .before .before .before .before .before .before .before .before .before .args in
     let fits = within-test (a .order) _ (c .before .before .before .is-within .ensures) (c .before .before .if1 .left) in
     let long = le-ltb (length (a .stacks .now)) (stackNeed (a .order)) (c .before .if2 .left) in
     let short = lt-ltb (length (a .counts .now)) (countNeed (a .order)) (c .if3 .taken) in
-    record { answer = simp (fits, long, short); state = simp (fits, long, short); stacks = simp (fits, long, short); counts = simp (fits, long, short) }
+    record { answer = simp (fits, long, short); state = simp (fits, long, short) (c .before .before .before .before .before .before .none .ensures); stacks = simp (fits, long, short); counts = simp (fits, long, short) }
 
 clear-requires : tie.Need-clear-requires
 clear-requires c κs = search needs
@@ -97,7 +100,7 @@ same-length-2 c = search needs
 
 returns-4 : tie.Need-returns-4
 returns-4 c =
-    let a = c .before .before .before .before .before .before .before .before .before .before .before .before .before .before .before .before .args in
+    let a = c .before .before .before .before .before .before .before .before .before .before .before .before .before .before .before .before .before .args in
     let fits = within-test (a .order) _ (c .before .before .before .before .before .before .before .before .before .before .before .is-within .ensures) (c .before .before .before .before .before .before .before .before .before .before .if1 .left) in
     let long = le-ltb (length (a .stacks .now)) (stackNeed (a .order)) (c .before .before .before .before .before .before .before .before .before .if2 .left) in
     let wide = le-ltb (length (a .counts .now)) (countNeed (a .order)) (c .before .before .before .before .before .before .before .before .if3 .left) in
@@ -107,6 +110,7 @@ pub open-spec : {M : Type 1} → statement M
 open-spec =
     tie.close
     (tie.spec
+    none-requires
     cast-ways
     cast-room
     is-within-requires
