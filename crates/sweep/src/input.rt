@@ -2,6 +2,7 @@
 use libc::STDIN_FILENO;
 use reading::Reading;
 use reading::Step;
+use units::refusal;
 ghost use mathlib.Core.Path.{_≡_};
 ghost use Prim.Native.Nat.{_≤_};
 ghost use lib.ListN.{length};
@@ -157,7 +158,7 @@ pub(crate) fn run(
     }
     Ended {
         failed: false,
-        answer: 26,
+        answer: refusal::TOO_MANY_LINES,
         reading,
     }
 }
