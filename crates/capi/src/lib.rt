@@ -34,15 +34,8 @@ pub extern "C" fn kkaeduron_open(
     if state.len() != STATE_NUMBERS {
         return OTHER_LENGTH;
     }
-    let order = Order {
-        bmin: ByteExp(bmin),
-        bmax: ByteExp(bmax),
-        smax,
-        ways,
-        room,
-        refs,
-    };
-    let reply = Opened::open(order, stacks, counts);
+    let checked = Order::new(ByteExp(bmin), ByteExp(bmax), smax, ways, room, refs);
+    let reply = Opened::open(checked.order, stacks, counts);
     let opened = reply.state;
     put_state(opened, state);
     reply.answer

@@ -243,7 +243,7 @@ impl Reading {
         }
     }
 
-    // The begin line.
+    // The begin line. An order outside its limits comes back as zeros, and opening these is refused as it is.
     fn begin(self, stacks: &mut [u32], counts: &mut [u32]) -> Step
         ensures { λ r. ⌜ stays r (now (stacks .exit)) (now (counts .exit)) ≡ beginAt self (now (stacks .entry)) (now (counts .entry)) ⌝ }
     {
@@ -261,15 +261,15 @@ impl Reading {
             };
         }
         let numbers = self.numbers;
-        let order = Order {
-            bmin: ByteExp(numbers[0]),
-            bmax: ByteExp(numbers[1]),
-            smax: numbers[2],
-            ways: numbers[3],
-            room: numbers[4],
-            refs: numbers[5],
-        };
-        let reply = Opened::open(order, stacks, counts);
+        let checked = Order::new(
+            ByteExp(numbers[0]),
+            ByteExp(numbers[1]),
+            numbers[2],
+            numbers[3],
+            numbers[4],
+            numbers[5],
+        );
+        let reply = Opened::open(checked.order, stacks, counts);
         let answer = reply.answer;
         let state = reply.state;
         let mut next = self;

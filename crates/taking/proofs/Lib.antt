@@ -2,6 +2,7 @@ pub mod BumpLaws
 pub mod LookLaws
 pub mod MoveLaws
 pub mod NeedLaws
+pub mod OpeningLaws
 pub mod OutcomeLaws
 pub mod RatioExamples
 pub mod RatioLaws

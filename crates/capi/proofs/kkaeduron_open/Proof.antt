@@ -1,6 +1,7 @@
 -- `kkaeduron_open` meets its contract: the reply of the library's opening, its state as numbers. Assumes nothing.
 use lib.ListN.{length}
 use borrow.Author.Tests.{ne-eqb}
+use Rattle.taking.proofs.OpeningLaws.{opens-checked}
 use Rattle.capi.proofs.BoundaryLaws.{open-other, open-called}
 use borrow.Author.Needs.{needs}
 use Rattle.capi.proofs.kkaeduron_open.Statement.{statement}
@@ -10,6 +11,9 @@ returns : tie.Need-returns
 returns c =
     let a = c .before .before .before .before .args in
     open-other _ (a .state .now) (a .stacks .now) (a .counts .now) (ne-eqb (length (a .state .now)) 15 (c .if1 .taken))
+
+new-requires : tie.Need-new-requires
+new-requires c κs = search needs
 
 open-requires : tie.Need-open-requires
 open-requires c κs = search needs
@@ -29,14 +33,16 @@ same-length-3 c = search needs
 returns-2 : tie.Need-returns-2
 returns-2 c =
     let at-open = c .before .before .before .before .before .before .before .before .before in
-    let a = c .before .before .before .before .before .before .before .before .before .before .before .before .before .before .before .before .args in
-    open-called _ (a .state .now) (a .stacks .now) (a .counts .now) (search needs) (at-open .«open» .ensures) (c .before .before .put-state .ensures)
+    let a = c .before .before .before .before .before .before .before .before .before .before .before .before .before .before .before .before .before .args in
+    let opens = opens-checked _ _ (a .stacks .now) (a .counts .now) _ _ _ (at-open .before .before .before .new .ensures) (at-open .«open» .ensures) in
+    open-called _ (a .state .now) (a .stacks .now) (a .counts .now) (search needs) opens (c .before .before .put-state .ensures)
 
 pub kkaeduron-open-spec : {M : Type 1} → statement M
 kkaeduron-open-spec =
     tie.close
     (tie.spec
     returns
+    new-requires
     open-requires
     put-state-requires
     same-length

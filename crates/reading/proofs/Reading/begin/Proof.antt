@@ -2,6 +2,8 @@
 use mathlib.Core.Path.{_≡_, refl, sym, ap, _∙_}
 use native.Mathlib.Omega.{arith}
 use borrow.Author.Tests.{eq-eqb, ne-eqb}
+use Rattle.taking.proofs.OpeningLaws.{opens-checked}
+use Rattle.reading.specs.Reading.{orderOf}
 use Rattle.reading.proofs.StepLaws.{opened-outcome, unopened-outcome, begin-stands}
 use borrow.Author.Needs.{needs}
 use Rattle.reading.proofs.Reading.begin.Statement.{statement}
@@ -27,17 +29,20 @@ array-read-t14 c = search needs
 array-read-t18 : tie.Need-array-read-t18
 array-read-t18 c = search needs
 
-array-read-t22 : tie.Need-array-read-t22
-array-read-t22 c = search needs
+array-read-new : tie.Need-array-read-new
+array-read-new c = search needs
 
-array-read-t25 : tie.Need-array-read-t25
-array-read-t25 c = search needs
+array-read-new-2 : tie.Need-array-read-new-2
+array-read-new-2 c = search needs
 
-array-read-t28 : tie.Need-array-read-t28
-array-read-t28 c = search needs
+array-read-new-3 : tie.Need-array-read-new-3
+array-read-new-3 c = search needs
 
-array-read-t31 : tie.Need-array-read-t31
-array-read-t31 c = search needs
+array-read-new-4 : tie.Need-array-read-new-4
+array-read-new-4 c = search needs
+
+new-requires : tie.Need-new-requires
+new-requires c κs = search needs
 
 open-requires : tie.Need-open-requires
 open-requires c κs = search needs
@@ -50,9 +55,10 @@ same-length-2 c = search needs
 
 returns-3 : tie.Need-returns-3
 returns-3 c =
-    let a = c .before .before .before .before .before .before .before .before .before .before .before .before .before .before .args in
+    let a = c .before .before .before .before .before .before .before .before .before .before .before .before .before .before .before .args in
     let call = c .before .before .before .before .before .before .«open» in
-    opened-outcome (a .self) (a .stacks .now) (a .counts .now) (call .result) (call .last .1 .0) (call .last .1 .1 .0) (call .ensures) (c .if3 .taken) ∙ begin-stands (a .self) (a .stacks .now) (a .counts .now) (omega arith) (omega arith)
+    let opens = opens-checked (orderOf (a .self)) _ (a .stacks .now) (a .counts .now) _ _ _ (c .before .before .before .before .before .before .before .before .before .new .ensures) (call .ensures) in
+    opened-outcome (a .self) (a .stacks .now) (a .counts .now) (call .result) (call .last .1 .0) (call .last .1 .1 .0) opens (c .if3 .taken) ∙ begin-stands (a .self) (a .stacks .now) (a .counts .now) (c .before .before .before .before .before .before .before .before .before .before .before .before .if1 .left) (c .before .before .before .before .before .before .before .before .before .before .before .if2 .left)
 
 same-length-3 : tie.Need-same-length-3
 same-length-3 c = search needs
@@ -62,9 +68,10 @@ same-length-4 c = search needs
 
 returns-4 : tie.Need-returns-4
 returns-4 c =
-    let a = c .before .before .before .before .before .before .before .before .before .before .before .before .before .before .args in
+    let a = c .before .before .before .before .before .before .before .before .before .before .before .before .before .before .before .args in
     let call = c .before .before .before .before .before .before .«open» in
-    unopened-outcome (a .self) (a .stacks .now) (a .counts .now) (call .result) (call .last .1 .0) (call .last .1 .1 .0) (call .ensures) (c .if3 .left) ∙ begin-stands (a .self) (a .stacks .now) (a .counts .now) (omega arith) (omega arith)
+    let opens = opens-checked (orderOf (a .self)) _ (a .stacks .now) (a .counts .now) _ _ _ (c .before .before .before .before .before .before .before .before .before .new .ensures) (call .ensures) in
+    unopened-outcome (a .self) (a .stacks .now) (a .counts .now) (call .result) (call .last .1 .0) (call .last .1 .1 .0) opens (c .if3 .left) ∙ begin-stands (a .self) (a .stacks .now) (a .counts .now) (c .before .before .before .before .before .before .before .before .before .before .before .before .if1 .left) (c .before .before .before .before .before .before .before .before .before .before .before .if2 .left)
 
 pub begin-spec : {M : Type 1} → statement M
 begin-spec =
@@ -74,10 +81,11 @@ begin-spec =
     returns-2
     array-read-t14
     array-read-t18
-    array-read-t22
-    array-read-t25
-    array-read-t28
-    array-read-t31
+    array-read-new
+    array-read-new-2
+    array-read-new-3
+    array-read-new-4
+    new-requires
     open-requires
     same-length
     same-length-2
