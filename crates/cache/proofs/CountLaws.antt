@@ -1,4 +1,4 @@
--- Misses are the references less the counts at depths 0 to w - 1: what demand 2 rests on, at one block size.
+-- Misses are the touches less the counts at depths 0 to w - 1: what demand 2 rests on, at one block size.
 -- Assumes nothing.
 use Prim.Native.Nat.{ℕ, zero, suc, _+_, _-_, _≤_, _<_}
 use mathlib.Core.Path.{_≡_, refl, sym, ap, ap₂, _∙_}
@@ -13,7 +13,7 @@ use Rattle.lists.specs.Runs.{answers, after}
 use Rattle.lists.specs.Sums.{total, sumTo}
 use Rattle.lists.proofs.Cases.{cases}
 use Rattle.lists.proofs.SumLaws.{total-ext, total-add, total-zero, total-map, total-answers, total-one-more}
-use Rattle.cache.specs.Cache.{setOf, Event, touch, Answer, hit, miss, missed, Sets, simulate, cacheStep, cacheAnswer, emptySets}
+use Rattle.cache.specs.Cache.{setOf, Event, touch, Answer, hit, miss, missed, touched, Sets, simulate, cacheStep, cacheAnswer, emptySets}
 use Rattle.cache.specs.Stack.{stackStep, stackPlace, depth, Place, at, new, places, verdict, atDepth}
 use Rattle.cache.proofs.StackLaws.{one-stack}
 
@@ -42,32 +42,24 @@ hits-by-depth (suc w) ps =
     ∙ total-add (λ p. hits (verdict w p)) (atDepth w) ps
     ∙ ap (λ (n : ℕ). n + total (atDepth w) ps) (hits-by-depth w ps)
 
-abbrev one : Event → ℕ
-one e = 1
-
-total-one : (es : List Event) → total one es ≡ length es
-total-one [] = refl
-total-one (e ∷ es) = omega (arith, total-one es)
-
-hit-or-miss : (s : ℕ) (c : Sets) (e : Event) → missed (cacheAnswer s c e) + hits (cacheAnswer s c e) ≡ 1
+hit-or-miss : (s : ℕ) (c : Sets) (e : Event) → missed (cacheAnswer s c e) + hits (cacheAnswer s c e) ≡ touched e
 hit-or-miss s c (touch x) = cases (mem x (c (setOf s x))) (λ e. simp e) (λ e. simp e)
 
 module _ (s w : ℕ) (es : List Event) where
   hits-are : total hits (simulate s w es) ≡ sumTo (λ d. total (atDepth d) (places s es)) w
   hits-are = ap (total hits) (one-stack s w es) ∙ total-map hits (verdict w) (places s es) ∙ hits-by-depth w (places s es)
 
-  both-are : total missed (simulate s w es) + total hits (simulate s w es) ≡ length es
+  both-are : total missed (simulate s w es) + total hits (simulate s w es) ≡ total touched es
   both-are =
       sym (total-add missed hits (simulate s w es))
-      ∙ total-answers (cacheStep s w) (cacheAnswer s) (λ a. missed a + hits a) one (hit-or-miss s) emptySets es
-      ∙ total-one es
+      ∙ total-answers (cacheStep s w) (cacheAnswer s) (λ a. missed a + hits a) touched (hit-or-miss s) emptySets es
 
   -- the misses of a cache, from the counts of one stack
-  pub misses-by-depth : total missed (simulate s w es) ≡ length es - sumTo (λ d. total (atDepth d) (places s es)) w
+  pub misses-by-depth : total missed (simulate s w es) ≡ total touched es - sumTo (λ d. total (atDepth d) (places s es)) w
   misses-by-depth = let h = hits-are in let b = both-are in omega arith
 
-  -- the counts never exceed the references
-  pub hits-fit : sumTo (λ d. total (atDepth d) (places s es)) w ≤ length es
+  -- the counts never exceed the touches
+  pub hits-fit : sumTo (λ d. total (atDepth d) (places s es)) w ≤ total touched es
   hits-fit = let h = hits-are in let b = both-are in omega arith
 
 -- what one reference adds to a count
@@ -76,14 +68,15 @@ place-count d s st x = cases (mem x st) (λ e. simp e) (λ e. simp e)
 
 -- ---- a count stays below the references once there is a stack: the first reference was new
 
-at-most-one : (d : ℕ) (p : Place) → atDepth d p ≤ 1
-at-most-one d new = omega arith
-at-most-one d (at k) = cases (eqb d k) (λ e. simp e (omega arith)) (λ e. simp e (omega arith))
+at-most-one : (d s : ℕ) (st : List ℕ) (e : Event) → atDepth d (stackPlace s st e) ≤ touched e
+at-most-one d s st (touch x) =
+    rw (place-count d s st x)
+    (cases (mem x st) (λ f. simp f (cases (eqb d (depth s x st)) (λ e. simp e (omega arith)) (λ e. simp e (omega arith)))) (λ f. simp f (omega arith)))
 
-few : (d s : ℕ) (st : List ℕ) (es : List Event) → total (atDepth d) (answers stackStep (stackPlace s) st es) ≤ length es
+few : (d s : ℕ) (st : List ℕ) (es : List Event) → total (atDepth d) (answers stackStep (stackPlace s) st es) ≤ total touched es
 few d s st [] = omega arith
-few d s st (e ∷ es) = omega (arith, at-most-one d (stackPlace s st e), few d s (stackStep st e) es)
+few d s st (e ∷ es) = omega (arith, at-most-one d s st e, few d s (stackStep st e) es)
 
-pub fewer : (d s x : ℕ) (es : List Event) → mem x (after stackStep [] es) ≡ true → total (atDepth d) (places s es) < length es
+pub fewer : (d s x : ℕ) (es : List Event) → mem x (after stackStep [] es) ≡ true → total (atDepth d) (places s es) < total touched es
 fewer d s x [] m = absurd (true≢false (sym m))
 fewer d s x (touch y ∷ es) m = omega (arith, few d s (y ∷ []) es)

@@ -1,7 +1,7 @@
--- Stacks of two block sizes over the same references: where the larger blocks have a new one and fill their room, so do the smaller.
+-- Stacks of two block sizes over the same given things: that of the larger blocks is never the longer one.
 -- Assumes nothing.
 use Prim.Native.Nat.{ℕ, zero, suc, _+_, _/_, _^_, _≤_, _<_}
-use mathlib.Core.Path.{_≡_, refl, sym, ap, _∙_}
+use mathlib.Core.Path.{_≡_, refl, sym, ap, _∙_, subst}
 use mathlib.Core.Bool.{Bool, true, false, cond, _||_, true≢false, false≢true, or-true}
 use mathlib.Core.List.{List, [], _∷_, map}
 use native.Mathlib.Omega.{arith}
@@ -13,17 +13,14 @@ use Rattle.lists.specs.Members.{mem, remove}
 use Rattle.lists.specs.Runs.{after}
 use Rattle.lists.proofs.Cases.{cases}
 use Rattle.lists.proofs.MemberLaws.{mem-front, length-front}
-use Rattle.cache.specs.Cache.{blockOf, Event, touch, touchesOf}
+use Rattle.lists.proofs.RunLaws.{after-append}
+use Rattle.cache.specs.Cache.{blockOf, Event, touch, Given, ref, eventsAt, eventsOf}
 use Rattle.cache.specs.Stack.{stackStep}
 
 -- larger blocks are made of smaller ones
 pub block-larger : (b k a : ℕ) → blockOf (b + k) a ≡ blockOf b a / 2 ^ k
 unfolding blockOf
 block-larger b k a = sym (shr-shr a b k)
-
-abbrev stackOver : (ℕ → ℕ) → List ℕ → List ℕ → List ℕ
-stackOver g st [] = st
-stackOver g st (a ∷ l) = stackOver g (stackStep st (touch (g a))) l
 
 -- f takes the blocks of one stack to all blocks of the other, which is no longer
 abbrev Covers : (ℕ → ℕ) → List ℕ → List ℕ → Type 0
@@ -46,37 +43,21 @@ covers-step f x st st′ (m, n) = (held, long)
         (λ e. simp (e, m x e) n)
         (λ e. simp e (cases (mem (f x) st′) (λ g. simp g (omega arith)) (λ g. simp g (omega arith)))))
 
-covers-over : (g f : ℕ → ℕ) (l : List ℕ) (st st′ : List ℕ) → Covers f st st′ → Covers f (stackOver g st l) (stackOver (λ a. f (g a)) st′ l)
-covers-over g f [] st st′ c = c
-covers-over g f (a ∷ l) st st′ c = covers-over g f l (g a ∷ remove (g a) st) (f (g a) ∷ remove (f (g a)) st′) (covers-step f (g a) st st′ c)
+-- what is given to both stacks, the one of blocks of 2^b bytes and the one of blocks 2^k times as large
+module _ (b k : ℕ) where
+  abbrev larger : ℕ → ℕ
+  larger y = y / 2 ^ k
 
-over-touches : (b : ℕ) (g : ℕ → ℕ) → ((a : ℕ) → g a ≡ blockOf b a) → (l st : List ℕ) → stackOver g st l ≡ after stackStep st (touchesOf b l)
-over-touches b g h [] st = refl
-over-touches b g h (a ∷ l) st = rw (← h a) (over-touches b g h l (g a ∷ remove (g a) st))
+  covers-given : (g : Given) (st st′ : List ℕ) → Covers larger st st′ → Covers larger (after stackStep st (eventsAt b g)) (after stackStep st′ (eventsAt (b + k) g))
+  covers-given (ref a) st st′ c =
+      subst (λ (y : ℕ). Covers larger (blockOf b a ∷ remove (blockOf b a) st) (y ∷ remove y st′)) (sym (block-larger b k a)) (covers-step larger (blockOf b a) st st′ c)
 
--- THE LAW behind refusal 6: a block that is new to a full stack of larger blocks is new to the stack of smaller ones, which is full too
-pub smaller-decides : (b k : ℕ) (l : List ℕ) (a room : ℕ)
-    → mem (blockOf (b + k) a) (after stackStep [] (touchesOf (b + k) l)) ≡ false → room ≤ length (after stackStep [] (touchesOf (b + k) l))
-    → (mem (blockOf b a) (after stackStep [] (touchesOf b l)) ≡ false) × (room ≤ length (after stackStep [] (touchesOf b l)))
-smaller-decides b k l a room absent full = (new, long)
-  where
-    f : ℕ → ℕ
-    f y = y / 2 ^ k
+  covers-all : (l : List Given) (st st′ : List ℕ) → Covers larger st st′ → Covers larger (after stackStep st (eventsOf b l)) (after stackStep st′ (eventsOf (b + k) l))
+  covers-all [] st st′ c = c
+  covers-all (g ∷ l) st st′ c =
+      rw (after-append stackStep st (eventsAt b g) (eventsOf b l), after-append stackStep st′ (eventsAt (b + k) g) (eventsOf (b + k) l))
+      (covers-all l (after stackStep st (eventsAt b g)) (after stackStep st′ (eventsAt (b + k) g)) (covers-given g st st′ c))
 
-    small : stackOver (blockOf b) [] l ≡ after stackStep [] (touchesOf b l)
-    small = over-touches b (blockOf b) (λ a. refl) l []
-
-    large : stackOver (λ a. f (blockOf b a)) [] l ≡ after stackStep [] (touchesOf (b + k) l)
-    large = over-touches (b + k) (λ a. f (blockOf b a)) (λ a. sym (block-larger b k a)) l []
-
-    covers : Covers f (stackOver (blockOf b) [] l) (stackOver (λ a. f (blockOf b a)) [] l)
-    covers = covers-over (blockOf b) f l [] [] ((λ y h. absurd (false≢true h)), omega arith)
-
-    new : mem (blockOf b a) (after stackStep [] (touchesOf b l)) ≡ false
-    new =
-        cases (mem (blockOf b a) (after stackStep [] (touchesOf b l)))
-        (λ e. absurd (true≢false (sym (covers .0 (blockOf b a) (ap (mem (blockOf b a)) small ∙ e)) ∙ ap (mem (f (blockOf b a))) large ∙ ap (λ (x : ℕ). mem x (after stackStep [] (touchesOf (b + k) l))) (sym (block-larger b k a)) ∙ absent)))
-        (λ e. e)
-
-    long : room ≤ length (after stackStep [] (touchesOf b l))
-    long = let p = covers .1 in let q = ap length small in let r = ap length large in omega arith
+  -- THE LAW behind refusal 6: the stack of larger blocks is never the longer one
+  pub no-longer : (l : List Given) → length (after stackStep [] (eventsOf (b + k) l)) ≤ length (after stackStep [] (eventsOf b l))
+  no-longer l = covers-all l [] [] ((λ y h. absurd (false≢true h)), omega arith) .1

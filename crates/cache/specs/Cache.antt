@@ -2,7 +2,7 @@
 -- Nothing here knows of stacks, tables or counts: this page is what a reader must believe. Assumes nothing.
 use Prim.Native.Nat.{ℕ, _/_, _%_, _^_}
 use mathlib.Core.Bool.{Bool, true, false, cond}
-use mathlib.Core.List.{List, [], _∷_, map}
+use mathlib.Core.List.{List, [], _∷_, _++_, map}
 use lib.Dec.{eqb}
 use lib.ListN.{take}
 use Rattle.lists.specs.Members.{mem, remove}
@@ -58,10 +58,32 @@ abbrev pub missed : Answer → ℕ
 missed hit = 0
 missed miss = 1
 
+-- 1 for a touch: what the touches are counted by
+abbrev pub touched : Event → ℕ
+touched (touch x) = 1
+
+-- ---- what is given to the caches of all block sizes: a reference to an address
+
+pub data Given : Type 0 where
+  ref : ℕ → Given
+
+-- 1 for a reference: what the references are counted by
+abbrev pub referred : Given → ℕ
+referred (ref a) = 1
+
+-- what it is at blocks of 2^b bytes: the touch of its block
+abbrev pub eventsAt : ℕ → Given → List Event
+eventsAt b (ref a) = touch (blockOf b a) ∷ []
+
+-- the events of one after the other
+abbrev pub eventsOf : ℕ → List Given → List Event
+eventsOf b [] = []
+eventsOf b (g ∷ l) = eventsAt b g ++ eventsOf b l
+
+-- THE MEANING of every miss count: the misses of the cache (b, s, w) over a list of given things
+abbrev pub missesOver : ℕ → ℕ → ℕ → List Given → ℕ
+missesOver b s w l = total missed (simulate s w (eventsOf b l))
+
 -- the touches of a list of addresses, at one block size
 abbrev pub touchesOf : ℕ → List ℕ → List Event
 touchesOf b l = map (λ a. touch (blockOf b a)) l
-
--- THE MEANING of every miss count: the misses of the cache (b, s, w) over a list of addresses
-abbrev pub missesOver : ℕ → ℕ → ℕ → List ℕ → ℕ
-missesOver b s w l = total missed (simulate s w (touchesOf b l))

@@ -14,13 +14,17 @@ use Rattle.taking.specs.declared.Opened.{Opened}
 use Rattle.taking.specs.declared.Reply.{Reply}
 use Rattle.taking.specs.declared.Counted.{Counted}
 use Rattle.taking.specs.declared.Rated.{Rated}
-use Rattle.taking.specs.Opening.{Opens}
-use Rattle.taking.specs.Taking.{Takes, isTaken}
+use Rattle.lists.specs.Tests.{settled}
+use Rattle.lists.proofs.TestLaws.{settled-in}
+use Rattle.cache.specs.Cache.{Given}
+use Rattle.taking.specs.World.{World}
+use Rattle.taking.specs.Opening.{unopened, Opens}
+use Rattle.taking.specs.Taking.{Takes, takeAnswer, taken}
 use Rattle.taking.specs.Questions.{missesOf}
 use Rattle.taking.specs.Ratios.{ratiosOf}
 use Rattle.strip.specs.declared.Stripped.{Stripped}
 use Rattle.strip.specs.Strip.{Strips}
-use Rattle.capi.specs.Boundary.{stateOf, numbersOf, hasLength, otherLength, bothOf, CallsOpen, CallsTake, CallsMisses, CallsRatios, CallsStrip}
+use Rattle.capi.specs.Boundary.{stateOf, numbersOf, hasLength, otherLength, bothOf, Lent, lent, worldIn, lentBy, CallsOpen, CallsTake, CallsMisses, CallsRatios, CallsStrip}
 
 -- ---- what crosses
 
@@ -64,68 +68,48 @@ state-stored v l h u =
 
 -- ---- opening and taking
 
-module _ (o : Order) (l st ct : List ℕ) where
-  pub open-other : hasLength 15 l ≡ false → CallsOpen o l st ct otherLength l st ct
-  open-other other = record { answer = simp other; state = simp other; stacks = simp other; counts = simp other }
+module _ (o : Order) (l : Lent) where
+  pub open-other : hasLength 15 (l .numbers) ≡ false → CallsOpen o l otherLength l
+  open-other other = record { answer = simp other; left = simp other }
 
-  pub open-called : {r : Reply} {l′ st′ ct′ : List ℕ}
-      → length l ≡ 15 → Opens o st ct r st′ ct′ → l′ ≡ numbersOf (r .state) → CallsOpen o l st ct (r .answer) l′ st′ ct′
-  open-called h call put =
-      let whole = eq-eqb (length l) 15 h in
-      record {
-        answer = simp whole (call .answer);
-        state = simp whole (put ∙ ap numbersOf (call .state));
-        stacks = simp whole (call .stacks);
-        counts = simp whole (call .counts);
-      }
+  pub open-called : {n : ℕ} {w : World} {ns : List ℕ} → length (l .numbers) ≡ 15 → Opens o (unopened (l .stacks) (l .counts)) n w → ns ≡ numbersOf (w .state)
+      → CallsOpen o l n (lent ns (w .stacks) (w .counts))
+  open-called {n} {w} {ns} h call put =
+      let whole = eq-eqb (length (l .numbers)) 15 h in
+      record { answer = simp whole (call .answer); left = simp whole (ap (λ (x : List ℕ). lent x (w .stacks) (w .counts)) put ∙ ap lentBy (call .left)) }
 
   -- and back: with 15 numbers, a call is the library's opening
-  pub opens-of-call : {r : ℕ} {l′ st′ ct′ : List ℕ}
-      → length l ≡ 15 → CallsOpen o l st ct r l′ st′ ct′ → Opens o st ct (record { state = stateOf l′; answer = r }) st′ ct′
-  opens-of-call h call =
-      let whole = eq-eqb (length l) 15 h in
-      record {
-        answer = simp whole at (call .answer);
-        state = ap stateOf (simp whole at (call .state));
-        stacks = simp whole at (call .stacks);
-        counts = simp whole at (call .counts);
-      }
+  pub opens-of-call : {n : ℕ} {l′ : Lent} → length (l .numbers) ≡ 15 → CallsOpen o l n l′ → Opens o (unopened (l .stacks) (l .counts)) n (worldIn l′)
+  opens-of-call {n} {l′} h call =
+      let whole = eq-eqb (length (l .numbers)) 15 h in
+      record { answer = simp whole at (call .answer); left = ap worldIn (simp whole at (call .left)) }
 
-module _ (l st ct : List ℕ) (a : ℕ) where
-  pub take-other : hasLength 15 l ≡ false → CallsTake l st ct a otherLength l st ct
-  take-other other = record { answer = simp other; state = simp other; stacks = simp other; counts = simp other }
+module _ (l : Lent) (g : Given) where
+  pub take-other : hasLength 15 (l .numbers) ≡ false → CallsTake l g otherLength l
+  take-other other = record { answer = simp other; left = simp other }
 
   -- a refused taking writes back the numbers that it read
-  numbers-kept : length l ≡ 15 → (t : Bool) (v : Opened) → numbersOf (cond t v (stateOf l)) ≡ cond t (numbersOf v) l
-  numbers-kept h true v = refl
-  numbers-kept h false v = numbers-of-state l h
+  kept : length (l .numbers) ≡ 15 → lentBy (worldIn l) ≡ l
+  kept h = ap (λ (x : List ℕ). lent x (l .stacks) (l .counts)) (numbers-of-state (l .numbers) h)
 
-  pub take-called : {r : Reply} {l′ st′ ct′ : List ℕ}
-      → length l ≡ 15 → Takes (stateOf l) st ct a r st′ ct′ → l′ ≡ numbersOf (r .state) → CallsTake l st ct a (r .answer) l′ st′ ct′
-  take-called h call put =
-      let whole = eq-eqb (length l) 15 h in
+  pub take-called : {n : ℕ} {w : World} {ns : List ℕ} → length (l .numbers) ≡ 15 → Takes (worldIn l) g n w → ns ≡ numbersOf (w .state)
+      → CallsTake l g n (lent ns (w .stacks) (w .counts))
+  take-called {n} {w} {ns} h call put =
+      let whole = eq-eqb (length (l .numbers)) 15 h in
+      let A = takeAnswer (worldIn l) g in
       record {
         answer = simp whole (call .answer);
-        state = simp whole (put ∙ ap numbersOf (call .state) ∙ numbers-kept h (isTaken (stateOf l) st ct a) _);
-        stacks = simp whole (call .stacks);
-        counts = simp whole (call .counts);
+        left = simp whole
+            (ap (λ (x : List ℕ). lent x (w .stacks) (w .counts)) put ∙ ap lentBy (call .left) ∙ settled-in lentBy A (taken (worldIn l) g) (worldIn l)
+            ∙ ap (λ (x : Lent). settled A (lentBy (taken (worldIn l) g)) x) (kept h));
       }
-
-  state-kept : (t : Bool) (v : Opened) → stateOf (cond t (numbersOf v) l) ≡ cond t v (stateOf l)
-  state-kept true v = refl
-  state-kept false v = refl
 
   -- and back: with 15 numbers, a call is the library's taking
-  pub takes-of-call : {r : ℕ} {l′ st′ ct′ : List ℕ}
-      → length l ≡ 15 → CallsTake l st ct a r l′ st′ ct′ → Takes (stateOf l) st ct a (record { state = stateOf l′; answer = r }) st′ ct′
-  takes-of-call h call =
-      let whole = eq-eqb (length l) 15 h in
-      record {
-        answer = simp whole at (call .answer);
-        state = ap stateOf (simp whole at (call .state)) ∙ state-kept (isTaken (stateOf l) st ct a) _;
-        stacks = simp whole at (call .stacks);
-        counts = simp whole at (call .counts);
-      }
+  pub takes-of-call : {n : ℕ} {l′ : Lent} → length (l .numbers) ≡ 15 → CallsTake l g n l′ → Takes (worldIn l) g n (worldIn l′)
+  takes-of-call {n} {l′} h call =
+      let whole = eq-eqb (length (l .numbers)) 15 h in
+      let A = takeAnswer (worldIn l) g in
+      record { answer = simp whole at (call .answer); left = ap worldIn (simp whole at (call .left)) ∙ settled-in worldIn A (lentBy (taken (worldIn l) g)) l }
 
 -- ---- the questions
 

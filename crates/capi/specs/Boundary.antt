@@ -7,14 +7,14 @@ use mathlib.Core.List.{List, [], _∷_}
 use lib.Dec.{eqb}
 use lib.Ieee.{Float}
 use lib.ListN.{length, drop, getD}
-use Rattle.lists.specs.Tables.{zeroed}
+use Rattle.lists.specs.Tests.{settled}
+use Rattle.cache.specs.Cache.{Given}
 use Rattle.order.specs.declared.Order.{Order}
-use Rattle.order.specs.Limits.{zeroOrder}
 use Rattle.taking.specs.declared.Opened.{Opened}
 use Rattle.taking.specs.declared.Ratios.{Ratios}
-use Rattle.taking.specs.Places.{stackNeed, countNeed}
-use Rattle.taking.specs.Opening.{openAnswer, isOpened, fresh}
-use Rattle.taking.specs.Taking.{takeAnswer, isTaken, stateDone, stacksDone, countsDone}
+use Rattle.taking.specs.World.{World}
+use Rattle.taking.specs.Opening.{openAnswer, opened, unopened}
+use Rattle.taking.specs.Taking.{takeAnswer, taken}
 use Rattle.taking.specs.Questions.{missesOf}
 use Rattle.taking.specs.Ratios.{ratiosOf}
 use Rattle.strip.specs.Strip.{stripAnswer, stripKept, stripFilter, stripOutput}
@@ -52,23 +52,34 @@ otherLength = 255
 
 -- ---- opening and taking
 
+-- what is lent: the numbers of a state, and both tables
+pub record Lent : Type 0 where
+  pub numbers : List ℕ
+  pub stacks : List ℕ
+  pub counts : List ℕ
+
+abbrev pub lent : List ℕ → List ℕ → List ℕ → Lent
+lent l st ct = record { numbers = l; stacks = st; counts = ct }
+
+-- the world that it says, and a world as it is lent
+abbrev pub worldIn : Lent → World
+worldIn l = record { state = stateOf (l .numbers); stacks = l .stacks; counts = l .counts }
+
+abbrev pub lentBy : World → Lent
+lentBy w = record { numbers = numbersOf (w .state); stacks = w .stacks; counts = w .counts }
+
 -- an opening that the library refuses leaves a state of zeros
-pub record CallsOpen (o : Order) (l st ct : List ℕ) (r : ℕ) (l′ st′ ct′ : List ℕ) : Type 0 where
-  pub answer : r ≡ cond (hasLength 15 l) (openAnswer o st ct) otherLength
-  pub state : l′ ≡ cond (hasLength 15 l) (numbersOf (cond (isOpened o st ct) (fresh o) (fresh zeroOrder))) l
-  pub stacks : st′ ≡ cond (hasLength 15 l && isOpened o st ct) (zeroed (stackNeed o) st) st
-  pub counts : ct′ ≡ cond (hasLength 15 l && isOpened o st ct) (zeroed (countNeed o) ct) ct
+pub record CallsOpen (o : Order) (l : Lent) (n : ℕ) (l′ : Lent) : Type 0 where
+  pub answer : n ≡ cond (hasLength 15 (l .numbers)) (openAnswer o (worldIn l)) otherLength
+  pub left : l′ ≡ cond (hasLength 15 (l .numbers)) (lentBy (settled (openAnswer o (worldIn l)) (opened o (worldIn l)) (unopened (l .stacks) (l .counts)))) l
 
--- a reference is taken, from the state that the numbers say
-abbrev pub isTakenFrom : List ℕ → List ℕ → List ℕ → ℕ → Bool
-isTakenFrom l st ct a = hasLength 15 l && isTaken (stateOf l) st ct a
+-- a taking that is refused, by the library or here, leaves all as it was
+abbrev pub takenAnswer : Lent → Given → ℕ
+takenAnswer l g = cond (hasLength 15 (l .numbers)) (takeAnswer (worldIn l) g) otherLength
 
--- a taking that is refused, by the library or here, leaves the numbers and both tables as they were
-pub record CallsTake (l st ct : List ℕ) (a r : ℕ) (l′ st′ ct′ : List ℕ) : Type 0 where
-  pub answer : r ≡ cond (hasLength 15 l) (takeAnswer (stateOf l) st ct a) otherLength
-  pub state : l′ ≡ cond (isTakenFrom l st ct a) (numbersOf (stateDone (stateOf l) st a)) l
-  pub stacks : st′ ≡ cond (isTakenFrom l st ct a) (stacksDone (stateOf l) st a) st
-  pub counts : ct′ ≡ cond (isTakenFrom l st ct a) (countsDone (stateOf l) st ct a) ct
+pub record CallsTake (l : Lent) (g : Given) (n : ℕ) (l′ : Lent) : Type 0 where
+  pub answer : n ≡ takenAnswer l g
+  pub left : l′ ≡ settled (takenAnswer l g) (lentBy (taken (worldIn l) g)) l
 
 -- ---- the questions
 

@@ -8,7 +8,8 @@ use units::Addr;
 use units::ByteExp;
 ghost use mathlib.Core.Path.{_≡_};
 ghost use lib.ListN.{length};
-ghost use Rattle.capi.specs.Boundary.{stateOf, numbersOf, CallsOpen, CallsTake, CallsMisses, CallsRatios, CallsStrip};
+ghost use Rattle.cache.specs.Cache.{ref};
+ghost use Rattle.capi.specs.Boundary.{stateOf, numbersOf, lent, CallsOpen, CallsTake, CallsMisses, CallsRatios, CallsStrip};
 
 // The answer where a slice has another length than the call asks. Document 01 does not list it.
 pub const OTHER_LENGTH: u32 = 255;
@@ -29,7 +30,7 @@ pub extern "C" fn kkaeduron_open(
     stacks: &mut [u32],
     counts: &mut [u32],
 ) -> u32
-    ensures { λ r. ⌜ CallsOpen (record { bmin = record { 0 = bmin }; bmax = record { 0 = bmax }; smax = smax; ways = ways; room = room; refs = refs }) (now (state .entry)) (now (stacks .entry)) (now (counts .entry)) r (now (state .exit)) (now (stacks .exit)) (now (counts .exit)) ⌝ }
+    ensures { λ r. ⌜ CallsOpen (record { bmin = record { 0 = bmin }; bmax = record { 0 = bmax }; smax = smax; ways = ways; room = room; refs = refs }) (lent (now (state .entry)) (now (stacks .entry)) (now (counts .entry))) r (lent (now (state .exit)) (now (stacks .exit)) (now (counts .exit))) ⌝ }
 {
     if state.len() != STATE_NUMBERS {
         return OTHER_LENGTH;
@@ -49,7 +50,7 @@ pub extern "C" fn kkaeduron_take(
     counts: &mut [u32],
     addr: u32,
 ) -> u32
-    ensures { λ r. ⌜ CallsTake (now (state .entry)) (now (stacks .entry)) (now (counts .entry)) addr r (now (state .exit)) (now (stacks .exit)) (now (counts .exit)) ⌝ }
+    ensures { λ r. ⌜ CallsTake (lent (now (state .entry)) (now (stacks .entry)) (now (counts .entry))) (ref addr) r (lent (now (state .exit)) (now (stacks .exit)) (now (counts .exit))) ⌝ }
 {
     if state.len() != STATE_NUMBERS {
         return OTHER_LENGTH;

@@ -1,4 +1,5 @@
 pub mod Cases
+pub mod CutLaws
 pub mod MemberLaws
 pub mod PartLaws
 pub mod RaiseLaws

@@ -8,10 +8,10 @@ use native.Mathlib.Nat.{suc-mul, mul-le-mul-right, zero-add, suc-add}
 use native.Mathlib.Numerals.{add-one}
 use native.Mathlib.Omega.{arith}
 use lib.Dec.{eqb, ltb}
-use lib.ListN.{length, take, drop, getD, set, length-append, length-take, length-drop, length-set, List·getD-append}
-use lib.Seq.{take-nil, drop-nil, length-take-le, take-append-seam, take-append-le, take-take, drop-append-add, drop-at, drop-drop, take-add, getD-take, getD-drop, getD-set-same, getD-set-other}
+use lib.ListN.{length, take, drop, getD, set, length-append, length-take, length-drop, length-set, take-append-drop, List·getD-append}
+use lib.Seq.{take-nil, drop-nil, length-take-le, take-append-seam, take-append-le, take-take, drop-append-add, drop-at, drop-drop, take-add, getD-take, getD-drop, getD-set-same, getD-set-other, getD-append-add, set-append-left}
 use borrow.Author.Tests.{eqb-true, eqb-false, ltb-true, ltb-false}
-use Rattle.lists.specs.Tables.{writeAt, writtenRows, setLengths}
+use Rattle.lists.specs.Tables.{part, writeAt, writtenRows, setLengths}
 use Rattle.lists.proofs.Cases.{cases}
 
 -- no fewer rows take no less
@@ -70,6 +70,42 @@ write-past base p l i h f =
     ∙ ap (λ (q : List ℕ). getD q (i - (base + length p)) 0) (drop-write base p l (length p) h (omega arith))
     ∙ getD-drop (base + length p) l (i - (base + length p)) 0
     ∙ ap (λ (n : ℕ). getD l n 0) e
+
+-- a part written over itself
+pub write-same : (base n : ℕ) (l : List ℕ) → base + n ≤ length l → writeAt base (part base n l) l ≡ l
+unfolding writeAt
+write-same base n l h =
+    ap (λ (m : ℕ). take base l ++ (part base n l ++ drop m (drop base l))) (length-take-le n (drop base l) (rw (length-drop base l) (omega arith)))
+    ∙ ap (λ (t : List ℕ). take base l ++ t) (take-append-drop n (drop base l))
+    ∙ take-append-drop base l
+
+-- ---- one entry of what is written
+
+set-append-add : (xs ys : List ℕ) (i v : ℕ) → set (xs ++ ys) (length xs + i) v ≡ xs ++ set ys i v
+set-append-add [] ys i v = rw (zero-add i)
+set-append-add (x ∷ xs) ys i v = rw (suc-add (length xs) i) (ap (λ (t : List ℕ). x ∷ t) (set-append-add xs ys i v))
+
+pub write-set : (base : ℕ) (p l : List ℕ) (i v : ℕ) → base ≤ length l → i < length p → writeAt base (set p i v) l ≡ set (writeAt base p l) (base + i) v
+unfolding writeAt
+write-set base p l i v h f =
+    ap (λ (n : ℕ). take base l ++ (set p i v ++ drop n (drop base l))) (length-set p i v)
+    ∙ ap (λ (t : List ℕ). take base l ++ t) (sym (set-append-left p (drop (length p) (drop base l)) i v f))
+    ∙ sym
+    (ap (λ (n : ℕ). set (take base l ++ (p ++ drop (length p) (drop base l))) (n + i) v) (sym (length-take-le base l h))
+    ∙ set-append-add (take base l) (p ++ drop (length p) (drop base l)) i v)
+
+pub write-at : (base : ℕ) (p l : List ℕ) (i : ℕ) → base ≤ length l → i < length p → getD (writeAt base p l) (base + i) 0 ≡ getD p i 0
+unfolding writeAt
+write-at base p l i h f =
+    ap (λ (n : ℕ). getD (take base l ++ (p ++ drop (length p) (drop base l))) (n + i) 0) (sym (length-take-le base l h))
+    ∙ getD-append-add (take base l) (p ++ drop (length p) (drop base l)) i 0
+    ∙ List·getD-append p (drop (length p) (drop base l)) 0 i f
+
+pub part-at : (base n : ℕ) (l : List ℕ) (i : ℕ) → i < n → getD (part base n l) i 0 ≡ getD l (base + i) 0
+part-at base n l i h = getD-take n (drop base l) i 0 h ∙ getD-drop base l i 0
+
+pub length-part : (base n : ℕ) (l : List ℕ) → base + n ≤ length l → length (part base n l) ≡ n
+length-part base n l h = length-take-le n (drop base l) (rw (length-drop base l) (omega arith))
 
 -- ---- rows written over a table: n rows of `room` entries, none longer
 
@@ -164,3 +200,15 @@ setLengths-at top (suc n) k l h f =
     (λ e.
     let q : k ≡ n → ⊥ = eqb-false k n e in
     getD-set-other (setLengths top n l) n k (length (top n)) 0 q ∙ setLengths-at top n k l (omega arith) (omega (arith, q)))
+
+-- ---- rows that are the same
+
+pub rows-same : (room : ℕ) (top up : ℕ → List ℕ) (n : ℕ) (l : List ℕ) → ((k : ℕ) → k < n → top k ≡ up k) → writtenRows room top n l ≡ writtenRows room up n l
+unfolding writtenRows
+rows-same room top up zero l h = refl
+rows-same room top up (suc n) l h = rw (h n (omega arith), rows-same room top up n l (λ k g. h k (omega arith)))
+
+pub setLengths-same : (top up : ℕ → List ℕ) (n : ℕ) (l : List ℕ) → ((k : ℕ) → k < n → top k ≡ up k) → setLengths top n l ≡ setLengths up n l
+unfolding setLengths
+setLengths-same top up zero l h = refl
+setLengths-same top up (suc n) l h = rw (h n (omega arith), setLengths-same top up n l (λ k g. h k (omega arith)))

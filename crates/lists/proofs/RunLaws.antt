@@ -2,9 +2,9 @@
 -- Assumes nothing.
 use Prim.Native.Nat.{ℕ}
 use mathlib.Core.Path.{_≡_, refl, sym, ap, ap₂, _∙_}
-use mathlib.Core.Bool.{Bool, true, false, cond}
+use mathlib.Core.Bool.{Bool, true, false, cond, _||_}
 use mathlib.Core.List.{List, [], _∷_, _++_, map}
-use Rattle.lists.specs.Runs.{answers, after, without, Each}
+use Rattle.lists.specs.Runs.{answers, after, anyOn, without, Each}
 use Rattle.lists.proofs.Cases.{cases}
 
 module _ {S S′ E : Type 0} (step : S → E → S) (step′ : S′ → E → S′) (Rel : S → S′ → Type 0)
@@ -42,6 +42,19 @@ pub after-snoc : {S E : Type 0} (step : S → E → S) (s : S) (es : List E) (e 
     → after step s (es ++ (e ∷ [])) ≡ step (after step s es) e
 after-snoc step s [] e = refl
 after-snoc step s (d ∷ es) e = after-snoc step (step s d) es e
+
+pub after-append : {S E : Type 0} (step : S → E → S) (s : S) (a b : List E) → after step s (a ++ b) ≡ after step (after step s a) b
+after-append step s [] b = refl
+after-append step s (e ∷ a) b = after-append step (step s e) a b
+
+-- a test that nothing passes after any run from s
+pub never-on : {S E : Type 0} (step : S → E → S) (p : S → E → Bool) (s : S) → ((l : List E) (e : E) → p (after step s l) e ≡ false)
+    → (past es : List E) → anyOn step p (after step s past) es ≡ false
+never-on step p s h past [] = refl
+never-on step p s h past (e ∷ es) =
+    let ih = never-on step p s h (past ++ (e ∷ [])) es in
+    let one = after-snoc step s past e in
+    simp (h past e) (ap (λ (q : _). anyOn step p q es) (sym one) ∙ ih)
 
 pub without-map : {O A B : Type 0} (drop : O → Bool) (f : A → B) (r : List O) (l : List A)
     → map f (without drop r l) ≡ without drop r (map f l)

@@ -7,8 +7,8 @@ use mathlib.Core.List.{List, [], _∷_}
 use native.Mathlib.Numerals.{add-one}
 use native.Mathlib.Omega.{arith}
 use lib.Dec.{leb, eqb}
-use borrow.Author.Tests.{le-leb, lt-leb, leb-true, leb-false, eqb-true, eqb-false, not-false}
-use Rattle.lists.specs.Tests.{firstOf, anyTo, allLe, All≤}
+use borrow.Author.Tests.{le-leb, lt-leb, leb-true, leb-false, eq-eqb, ne-eqb, eqb-true, eqb-false, not-false}
+use Rattle.lists.specs.Tests.{firstOf, settled, anyTo, allLe, All≤}
 use Rattle.lists.proofs.Cases.{cases}
 
 -- ---- the first that holds
@@ -17,6 +17,18 @@ use Rattle.lists.proofs.Cases.{cases}
 pub none-first : (t : Bool) (n m : ℕ) → cond t (suc n) m ≡ 0 → (t ≡ false) × (m ≡ 0)
 none-first true n m e = absurd (omega arith)
 none-first false n m e = (refl, e)
+
+-- ---- what is left
+
+pub settled-done : {A : Type 0} (n : ℕ) (new old : A) → n ≡ 0 → settled n new old ≡ new
+settled-done n new old e = ap (λ (t : Bool). cond t new old) (eq-eqb n 0 e)
+
+pub settled-not : {A : Type 0} (n : ℕ) (new old : A) → (n ≡ 0 → ⊥) → settled n new old ≡ old
+settled-not n new old ne = ap (λ (t : Bool). cond t new old) (ne-eqb n 0 ne)
+
+-- what is left, put into something
+pub settled-in : {A B : Type 0} (f : A → B) (n : ℕ) (new old : A) → f (settled n new old) ≡ settled n (f new) (f old)
+settled-in f n new old = cases (eqb n 0) (λ e. simp e) (λ e. simp e)
 
 -- ---- whether some holds
 

@@ -1,6 +1,6 @@
 -- A machine that is given one thing after the other: its answers, and its state at the end.
 -- Assumes nothing.
-use mathlib.Core.Bool.{Bool, cond}
+use mathlib.Core.Bool.{Bool, false, cond, _||_}
 use mathlib.Core.List.{List, [], _∷_}
 
 -- the answer to each thing, from a state on
@@ -12,6 +12,11 @@ answers step out s (e ∷ es) = out s e ∷ answers step out (step s e) es
 abbrev pub after : {S E : Type 0} → (S → E → S) → S → List E → S
 after step s [] = s
 after step s (e ∷ es) = after step (step s e) es
+
+-- some thing passes the test, in the state that it meets
+abbrev pub anyOn : {S E : Type 0} → (S → E → S) → (S → E → Bool) → S → List E → Bool
+anyOn step p s [] = false
+anyOn step p s (e ∷ es) = p s e || anyOn step p (step s e) es
 
 -- of a list of things and a list of answers, one each: the things whose answer does not pass the test
 abbrev pub without : {O A : Type 0} → (O → Bool) → List O → List A → List A

@@ -1,6 +1,6 @@
 -- Tables as lists of numbers: parts that are zeroed, written over or read, and rows of counts of which some go up by one.
 -- Assumes nothing.
-use Prim.Native.Nat.{ℕ, zero, suc, _+_, _*_}
+use Prim.Native.Nat.{ℕ, zero, suc, _+_, _-_, _*_}
 use mathlib.Core.Bool.{Bool, cond, _&&_}
 use mathlib.Core.List.{List, [], _∷_, _++_}
 use lib.Dec.{leb, ltb}
@@ -14,6 +14,10 @@ zeroed n l = replicate n 0 ++ drop n l
 -- n entries from a place on
 abbrev pub part : ℕ → ℕ → List ℕ → List ℕ
 part base n l = take n (drop base l)
+
+-- a list made at least n long, by zeros at its end
+abbrev pub padded : ℕ → List ℕ → List ℕ
+padded n l = l ++ replicate (n - length l) 0
 
 -- a list written over a table, from a place on
 unfoldable pub writeAt : ℕ → List ℕ → List ℕ → List ℕ

@@ -3,12 +3,16 @@
 use Prim.Native.Nat.{ℕ, zero, suc, _≤_}
 use mathlib.Core.Bool.{Bool, true, false, cond, _&&_, _||_}
 use mathlib.Core.List.{List, [], _∷_}
-use lib.Dec.{leb}
+use lib.Dec.{eqb, leb}
 
 -- the number beside the first test that holds, or 0 where none does
 abbrev pub firstOf : List (Bool × ℕ) → ℕ
 firstOf [] = 0
 firstOf (c ∷ cs) = cond (c .0) (c .1) (firstOf cs)
+
+-- the answer decides what is left: the new where it is 0, else what was
+abbrev pub settled : {A : Type 0} → ℕ → A → A → A
+settled n new old = cond (eqb n 0) new old
 
 -- some number below n passes
 unfoldable pub anyTo : ℕ → (ℕ → Bool) → Bool

@@ -1,6 +1,6 @@
 -- The limits of an order's numbers (document 01, "The order's numbers"), and what its constructor answers.
 -- Assumes nothing.
-use Prim.Native.Nat.{ℕ, _-_, _+_}
+use Prim.Native.Nat.{ℕ, _-_, _+_, _*_}
 use mathlib.Core.Path.{_≡_}
 use mathlib.Core.Bool.{Bool, cond, not}
 use mathlib.Core.List.{List, [], _∷_}
@@ -12,6 +12,21 @@ use Rattle.order.specs.declared.Checked.{Checked}
 -- at most 8 block sizes: bmin to bmax
 abbrev pub sizes : Order → ℕ
 sizes o = o .bmax .0 - o .bmin .0 + 1
+
+-- every s from 0 to smax
+abbrev pub rows : Order → ℕ
+rows o = o .smax + 1
+
+-- the counts of one block size: for each s, one for each depth below `ways`
+abbrev pub span : Order → ℕ
+span o = rows o * o .ways
+
+-- how many entries the order needs of the stack table and of the count table
+abbrev pub stackNeed : Order → ℕ
+stackNeed o = sizes o * o .room
+
+abbrev pub countNeed : Order → ℕ
+countNeed o = sizes o * rows o * o .ways
 
 -- in each pair the first is at most the second
 abbrev pub limits : Order → List (ℕ × ℕ)

@@ -4,14 +4,9 @@ use Prim.Native.Nat.{ℕ}
 use mathlib.Core.Bool.{cond}
 use mathlib.Core.List.{List, [], _∷_}
 use lib.Dec.{eqb}
-use Rattle.reading.specs.declared.Reading.{Reading}
-use Rattle.reading.specs.declared.Step.{Step}
-use Rattle.reading.specs.Reading.{Outcome, stays, stepOf, ended}
+use Rattle.reading.specs.Reading.{Desk, Outcome, stays, stepOf, ended}
 
--- what the run ends with, from an outcome on: the answer, the state and both tables
-unfoldable pub runFrom : Reading → List ℕ → List ℕ → List (List ℕ) → Outcome
-runFrom v st ct [] = stays (ended v) st ct
-runFrom v st ct (line ∷ more) =
-    cond (eqb (stepOf v line st ct .answer) 0)
-    (runFrom (stepOf v line st ct .next) (stepOf v line st ct .stacks) (stepOf v line st ct .counts) more)
-    (stepOf v line st ct)
+-- what the run ends with, from a desk on
+unfoldable pub runFrom : Desk → List (List ℕ) → Outcome
+runFrom d [] = stays (ended (d .reading)) d
+runFrom d (line ∷ more) = cond (eqb (stepOf d line .answer) 0) (runFrom (stepOf d line .left) more) (stepOf d line)

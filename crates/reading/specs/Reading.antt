@@ -6,14 +6,15 @@ use mathlib.Core.Bool.{Bool, cond}
 use mathlib.Core.List.{List, [], _∷_}
 use lib.Dec.{eqb, leb}
 use lib.ListN.{getD, set, replicate}
-use Rattle.lists.specs.Tables.{zeroed}
 use Rattle.units.specs.Refusals.{done, badOrderLine, badTraceLine, tooManyLines}
 use Rattle.order.specs.declared.Order.{Order}
 use Rattle.order.specs.Limits.{zeroOrder}
 use Rattle.taking.specs.declared.Opened.{Opened}
-use Rattle.taking.specs.Places.{stackNeed, countNeed}
-use Rattle.taking.specs.Opening.{openAnswer, isOpened, fresh}
-use Rattle.taking.specs.Taking.{takeAnswer, isTaken, stateDone, stacksDone, countsDone}
+use Rattle.taking.specs.World.{World}
+use Rattle.lists.specs.Tests.{settled}
+use Rattle.taking.specs.Opening.{openAnswer, opened, fresh}
+use Rattle.taking.specs.Taking.{takeAnswer, taken}
+use Rattle.cache.specs.Cache.{Given, ref}
 use Rattle.lines.specs.declared.Kinds.{Kinds}
 use Rattle.lines.specs.declared.Kinds.the-variants.{All}
 use Rattle.lines.specs.declared.OrderLine.{OrderLine}
@@ -25,12 +26,22 @@ use Rattle.lines.specs.OrderLine.{orderLineOf, countsKind}
 use Rattle.reading.specs.declared.Reading.{Reading}
 use Rattle.reading.specs.declared.Step.{Step}
 
--- the answer, the next state, and both tables
-pub record Outcome : Type 0 where
-  pub answer : ℕ
-  pub next : Reading
+-- what a line works on: how far the input is read, and both tables
+pub record Desk : Type 0 where
+  pub reading : Reading
   pub stacks : List ℕ
   pub counts : List ℕ
+
+abbrev pub desk : Reading → List ℕ → List ℕ → Desk
+desk v st ct = record { reading = v; stacks = st; counts = ct }
+
+-- the answer, and what is left
+pub record Outcome : Type 0 where
+  pub answer : ℕ
+  pub left : Desk
+
+abbrev pub outcome : ℕ → Desk → Outcome
+outcome n d = record { answer = n; left = d }
 
 -- The stages: 0 to 5, that of the order's numbers comes next; 6, `kinds=` or `begin=`; 7, `begin=`; 8, the trace
 abbrev pub inTrace : Reading → Bool
@@ -52,8 +63,8 @@ withNumber place n v =
 abbrev pub withKinds : Kinds → Reading → Reading
 withKinds k v = record { lines = v .lines; stage = 7; numbers = v .numbers; kinds = k; skipped = v .skipped; opened = v .opened }
 
-abbrev pub withTrace : Opened → Reading → Reading
-withTrace o v = record { lines = v .lines; stage = 8; numbers = v .numbers; kinds = v .kinds; skipped = v .skipped; opened = o }
+abbrev pub withStage : ℕ → Reading → Reading
+withStage n v = record { lines = v .lines; stage = n; numbers = v .numbers; kinds = v .kinds; skipped = v .skipped; opened = v .opened }
 
 abbrev pub withOpened : Opened → Reading → Reading
 withOpened o v = record { lines = v .lines; stage = v .stage; numbers = v .numbers; kinds = v .kinds; skipped = v .skipped; opened = o }
@@ -63,6 +74,16 @@ abbrev pub withSkipped : Reading → Reading
 withSkipped v =
     record { lines = v .lines; stage = v .stage; numbers = v .numbers; kinds = v .kinds; skipped = min (v .skipped + 1) 4294967295; opened = v .opened }
 
+-- the world of the opened order, and the desk with another
+abbrev pub worldOf : Desk → World
+worldOf d = record { state = d .reading .opened; stacks = d .stacks; counts = d .counts }
+
+abbrev pub withWorld : World → Desk → Desk
+withWorld w d = record { reading = withOpened (w .state) (d .reading); stacks = w .stacks; counts = w .counts }
+
+abbrev pub withReading : Reading → Desk → Desk
+withReading v d = record { reading = v; stacks = d .stacks; counts = d .counts }
+
 -- ---- outcomes
 
 -- an answer and the next state
@@ -70,8 +91,8 @@ abbrev pub answered : ℕ → Reading → Step
 answered n v = record { answer = n; next = v }
 
 -- both tables stay
-abbrev pub stays : Step → List ℕ → List ℕ → Outcome
-stays s st ct = record { answer = s .answer; next = s .next; stacks = st; counts = ct }
+abbrev pub stays : Step → Desk → Outcome
+stays s d = record { answer = s .answer; left = withReading (s .next) d }
 
 -- an order's number stands at its own place
 abbrev pub numberAt : ℕ → ℕ → Reading → Step
@@ -92,54 +113,58 @@ orderOf v = record {
   refs = getD (v .numbers) 5 0;
 }
 
+-- the trace begins, over an opened order
+abbrev pub begun : Order → Desk → Desk
+begun o d = withWorld (opened o (worldOf d)) (withReading (withStage 8 (d .reading)) d)
+
 -- the begin line: limits are checked here, by opening the order
-abbrev pub opening : Reading → List ℕ → List ℕ → Outcome
-opening v st ct = record {
-  answer = openAnswer (orderOf v) st ct;
-  next = cond (isOpened (orderOf v) st ct) (withTrace (fresh (orderOf v)) v) v;
-  stacks = cond (isOpened (orderOf v) st ct) (zeroed (stackNeed (orderOf v)) st) st;
-  counts = cond (isOpened (orderOf v) st ct) (zeroed (countNeed (orderOf v)) ct) ct;
+abbrev pub opening : Desk → Outcome
+opening d = record {
+  answer = openAnswer (orderOf (d .reading)) (worldOf d);
+  left = settled (openAnswer (orderOf (d .reading)) (worldOf d)) (begun (orderOf (d .reading)) d) d;
 }
 
 -- it stands after the numbers, or after `kinds=`
-abbrev pub beginAt : Reading → List ℕ → List ℕ → Outcome
-beginAt v st ct = cond (eqb (v .stage) 6) (opening v st ct) (cond (eqb (v .stage) 7) (opening v st ct) (stays (answered badOrderLine v) st ct))
+abbrev pub beginAt : Desk → Outcome
+beginAt d = cond (eqb (d .reading .stage) 6) (opening d) (cond (eqb (d .reading .stage) 7) (opening d) (stays (answered badOrderLine (d .reading)) d))
 
-abbrev pub orderStep : Reading → OrderLine → List ℕ → List ℕ → Outcome
-orderStep v (Bmin n) st ct = stays (numberAt 0 n v) st ct
-orderStep v (Bmax n) st ct = stays (numberAt 1 n v) st ct
-orderStep v (Smax n) st ct = stays (numberAt 2 n v) st ct
-orderStep v (Ways n) st ct = stays (numberAt 3 n v) st ct
-orderStep v (Room n) st ct = stays (numberAt 4 n v) st ct
-orderStep v (Refs n) st ct = stays (numberAt 5 n v) st ct
-orderStep v (Counting k) st ct = stays (kindsAt k v) st ct
-orderStep v Begin st ct = beginAt v st ct
-orderStep v (BadOrder n) st ct = stays (answered n v) st ct
+abbrev pub orderStep : Desk → OrderLine → Outcome
+orderStep d (Bmin n) = stays (numberAt 0 n (d .reading)) d
+orderStep d (Bmax n) = stays (numberAt 1 n (d .reading)) d
+orderStep d (Smax n) = stays (numberAt 2 n (d .reading)) d
+orderStep d (Ways n) = stays (numberAt 3 n (d .reading)) d
+orderStep d (Room n) = stays (numberAt 4 n (d .reading)) d
+orderStep d (Refs n) = stays (numberAt 5 n (d .reading)) d
+orderStep d (Counting k) = stays (kindsAt k (d .reading)) d
+orderStep d Begin = beginAt d
+orderStep d (BadOrder n) = stays (answered n (d .reading)) d
 
--- a reference that is counted is taken
-abbrev pub takes : Reading → ℕ → List ℕ → List ℕ → Outcome
-takes v a st ct = record {
-  answer = takeAnswer (v .opened) st ct a;
-  next = cond (isTaken (v .opened) st ct a) (withOpened (stateDone (v .opened) st a) v) v;
-  stacks = cond (isTaken (v .opened) st ct a) (stacksDone (v .opened) st a) st;
-  counts = cond (isTaken (v .opened) st ct a) (countsDone (v .opened) st ct a) ct;
+-- what is given is taken
+abbrev pub takes : Desk → Given → Outcome
+takes d g = record {
+  answer = takeAnswer (worldOf d) g;
+  left = settled (takeAnswer (worldOf d) g) (withWorld (taken (worldOf d) g) d) d;
 }
 
 -- a line that is skipped, or whose kind is not counted, is only counted among the skipped
-abbrev pub traceStep : Reading → TraceLine → List ℕ → List ℕ → Outcome
-traceStep v (Ref kind a) st ct = cond (countsKind (v .kinds) kind) (takes v (a .0) st ct) (stays (answered done (withSkipped v)) st ct)
-traceStep v Skipped st ct = stays (answered done (withSkipped v)) st ct
-traceStep v (BadTrace n) st ct = stays (answered n v) st ct
+abbrev pub traceStep : Desk → TraceLine → Outcome
+traceStep d (Ref kind a) = cond (countsKind (d .reading .kinds) kind) (takes d (ref (a .0))) (stays (answered done (withSkipped (d .reading))) d)
+traceStep d Skipped = stays (answered done (withSkipped (d .reading))) d
+traceStep d (BadTrace n) = stays (answered n (d .reading)) d
 
 -- 26 is decided before the line is read
 abbrev pub isTooMany : Reading → Bool
 isTooMany v = leb 4294967295 (v .lines)
 
+-- one line more is read
+abbrev pub counted : Desk → Desk
+counted d = withReading (withLines (d .reading .lines + 1) (d .reading)) d
+
 -- THE STEP: the line counts as read, whatever it says
-abbrev pub stepOf : Reading → List ℕ → List ℕ → List ℕ → Outcome
-stepOf v line st ct =
-    cond (isTooMany v) (stays (answered tooManyLines (withLines 4294967296 v)) st ct)
-    (cond (inTrace v) (traceStep (withLines (v .lines + 1) v) (traceLineOf line) st ct) (orderStep (withLines (v .lines + 1) v) (orderLineOf line) st ct))
+abbrev pub stepOf : Desk → List ℕ → Outcome
+stepOf d line =
+    cond (isTooMany (d .reading)) (stays (answered tooManyLines (withLines 4294967296 (d .reading))) d)
+    (cond (inTrace (d .reading)) (traceStep (counted d) (traceLineOf line)) (orderStep (counted d) (orderLineOf line)))
 
 -- a line longer than the line buffer, however long it is: 10 before the begin line and 11 after it
 abbrev pub longLine : Reading → Step
@@ -151,5 +176,5 @@ abbrev pub ended : Reading → Step
 ended v = cond (inTrace v) (answered done v) (answered badOrderLine (withLines (min (v .lines + 1) 4294967296) v))
 
 -- THE CONTRACT of `step`
-abbrev pub Steps : Reading → List ℕ → List ℕ → List ℕ → Step → List ℕ → List ℕ → Type 0
-Steps v line st ct r st′ ct′ = stays r st′ ct′ ≡ stepOf v line st ct
+abbrev pub Steps : Desk → List ℕ → ℕ → Desk → Type 0
+Steps d line n d′ = record { answer = n; left = d′ } ≡ stepOf d line

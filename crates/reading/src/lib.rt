@@ -11,7 +11,8 @@ use units::Addr;
 use units::ByteExp;
 use units::refusal;
 ghost use mathlib.Core.Path.{_≡_};
-ghost use Rattle.reading.specs.Reading.{start as Reading·start, answered, stays, withLines, withSkipped, numberAt, kindsAt, beginAt, takes, orderStep, traceStep, Steps, longLine, ended as Reading·ended};
+ghost use Rattle.reading.specs.Reading.{desk, start as Reading·start, answered, stays, withLines, withSkipped, numberAt, kindsAt, beginAt, takes, orderStep, traceStep, Steps, longLine, ended as Reading·ended};
+ghost use Rattle.cache.specs.Cache.{ref};
 ghost use Rattle.units.specs.Refusals.{done};
 ghost use Prim.Native.Nat.{_<_, _+_, min};
 ghost use Rattle.lines.specs.OrderLine.{orderLineOf};
@@ -56,7 +57,7 @@ impl Reading {
 
     // One line, without its LF.
     pub fn step(self, line: &[u8], stacks: &mut [u32], counts: &mut [u32]) -> Step
-        ensures { λ r. ⌜ Steps self (now (line .entry)) (now (stacks .entry)) (now (counts .entry)) r (now (stacks .exit)) (now (counts .exit)) ⌝ }
+        ensures { λ r. ⌜ Steps (desk self (now (stacks .entry)) (now (counts .entry))) (now (line .entry)) (r .answer) (desk (r .next) (now (stacks .exit)) (now (counts .exit))) ⌝ }
     {
         let counted = self.counted();
         let lines = counted.lines;
@@ -132,7 +133,7 @@ impl Reading {
     }
 
     fn trace_step(self, line: &[u8], stacks: &mut [u32], counts: &mut [u32]) -> Step
-        ensures { λ r. ⌜ stays r (now (stacks .exit)) (now (counts .exit)) ≡ traceStep self (traceLineOf (now (line .entry))) (now (stacks .entry)) (now (counts .entry)) ⌝ }
+        ensures { λ r. ⌜ stays r (desk (r .next) (now (stacks .exit)) (now (counts .exit))) ≡ traceStep (desk self (now (stacks .entry)) (now (counts .entry))) (traceLineOf (now (line .entry))) ⌝ }
     {
         let read = trace_line(line);
         match read {
@@ -150,7 +151,7 @@ impl Reading {
     }
 
     fn order_step(self, line: &[u8], stacks: &mut [u32], counts: &mut [u32]) -> Step
-        ensures { λ r. ⌜ stays r (now (stacks .exit)) (now (counts .exit)) ≡ orderStep self (orderLineOf (now (line .entry))) (now (stacks .entry)) (now (counts .entry)) ⌝ }
+        ensures { λ r. ⌜ stays r (desk (r .next) (now (stacks .exit)) (now (counts .exit))) ≡ orderStep (desk self (now (stacks .entry)) (now (counts .entry))) (orderLineOf (now (line .entry))) ⌝ }
     {
         let read = order_line(line);
         match read {
@@ -183,7 +184,7 @@ impl Reading {
 
     // The line is a reference that is counted.
     fn taken(self, a: Addr, stacks: &mut [u32], counts: &mut [u32]) -> Step
-        ensures { λ r. ⌜ stays r (now (stacks .exit)) (now (counts .exit)) ≡ takes self (a .0) (now (stacks .entry)) (now (counts .entry)) ⌝ }
+        ensures { λ r. ⌜ stays r (desk (r .next) (now (stacks .exit)) (now (counts .exit))) ≡ takes (desk self (now (stacks .entry)) (now (counts .entry))) (ref (a .0)) ⌝ }
     {
         let mut next = self;
         let opened = self.opened;
@@ -245,7 +246,7 @@ impl Reading {
 
     // The begin line. An order outside its limits comes back as zeros, and opening these is refused as it is.
     fn begin(self, stacks: &mut [u32], counts: &mut [u32]) -> Step
-        ensures { λ r. ⌜ stays r (now (stacks .exit)) (now (counts .exit)) ≡ beginAt self (now (stacks .entry)) (now (counts .entry)) ⌝ }
+        ensures { λ r. ⌜ stays r (desk (r .next) (now (stacks .exit)) (now (counts .exit))) ≡ beginAt (desk self (now (stacks .entry)) (now (counts .entry))) ⌝ }
     {
         let stage = self.stage;
         if stage < 6 {

@@ -14,9 +14,9 @@ use Rattle.lines.specs.declared.OrderLine.{OrderLine}
 use Rattle.lines.specs.declared.OrderLine.the-variants.{Bmin, Bmax, Smax, Ways, Room, Refs, Kinds as Counting}
 use Rattle.reading.specs.declared.Reading.{Reading}
 use Rattle.reading.specs.declared.Step.{Step}
-use Rattle.reading.specs.Reading.{Outcome, inTrace, answered, stays, numberAt, kindsAt}
+use Rattle.reading.specs.Reading.{Desk, Outcome, worldOf, inTrace, answered, stays, numberAt, kindsAt}
 use Rattle.runs.specs.Input.{isBegin, orderIn, kindsIn}
-use Rattle.runs.proofs.HistoryLaws.{History}
+use Rattle.calls.proofs.HistoryLaws.{History}
 
 -- the lines of an order's six numbers and of its kinds
 abbrev pub saidBy : List ℕ → Kinds → List OrderLine
@@ -34,16 +34,16 @@ pub record Heading (v : Reading) (said : List OrderLine) : Type 0 where
 
 -- the begin line is done: the trace begins, and nothing is taken or skipped yet
 pub record Begun (said : List OrderLine) (o : Outcome) : Type 0 where
-  pub trace : inTrace (o .next) ≡ true
-  pub order : o .next .opened .order ≡ orderIn said
-  pub kinds : o .next .kinds ≡ kindsIn said
-  pub history : History (o .next .opened) (o .stacks) (o .counts) []
-  pub skipped : o .next .skipped ≡ 0
+  pub trace : inTrace (o .left .reading) ≡ true
+  pub order : o .left .reading .opened .order ≡ orderIn said
+  pub kinds : o .left .reading .kinds ≡ kindsIn said
+  pub history : History (worldOf (o .left)) []
+  pub skipped : o .left .reading .skipped ≡ 0
 
 -- the answer to the line l is n
-pub record Headed (st ct : List ℕ) (said : List OrderLine) (l : OrderLine) (n : ℕ) (o : Outcome) : Type 0 where
+pub record Headed (d : Desk) (said : List OrderLine) (l : OrderLine) (n : ℕ) (o : Outcome) : Type 0 where
   pub answer : o .answer ≡ n
-  pub going : o .answer ≡ 0 → isBegin l ≡ false → Heading (o .next) (said ++ (l ∷ [])) × (o .stacks ≡ st) × (o .counts ≡ ct)
+  pub going : o .answer ≡ 0 → isBegin l ≡ false → Heading (o .left .reading) (said ++ (l ∷ [])) × (worldOf (o .left) ≡ worldOf d)
   pub begun : o .answer ≡ 0 → isBegin l ≡ true → Begun said o
 
 -- six numbers, of which one is set
@@ -57,7 +57,10 @@ six-cases P p (a ∷ b ∷ c ∷ d ∷ e ∷ []) h = absurd (omega arith)
 six-cases P p (a ∷ b ∷ c ∷ d ∷ e ∷ f ∷ []) h = p a b c d e f
 six-cases P p (a ∷ b ∷ c ∷ d ∷ e ∷ f ∷ g ∷ l) h = absurd (omega arith)
 
-module _ (v : Reading) (st ct : List ℕ) (said : List OrderLine) (h : Heading v said) where
+module _ (d : Desk) (said : List OrderLine) (h : Heading (d .reading) said) where
+  abbrev v : Reading
+  v = d .reading
+
   pub so-far : (n : ℕ) → v .stage ≡ n → said ≡ take n (saidBy (v .numbers) (v .kinds))
   so-far n at = h .reads ∙ ap (λ (m : ℕ). take m (saidBy (v .numbers) (v .kinds))) at
 
@@ -67,15 +70,15 @@ module _ (v : Reading) (st ct : List ℕ) (said : List OrderLine) (h : Heading v
   pub few-said : length said ≤ 7
   few-said = omega (arith, h .stage, stage-is)
 
-  pub refuses : (l : OrderLine) → Headed st ct said l 10 (stays (answered 10 v) st ct)
+  pub refuses : (l : OrderLine) → Headed d said l 10 (stays (answered 10 v) d)
   refuses l = record { answer = refl; going = λ e. absurd (omega arith); begun = λ e. absurd (omega arith) }
 
   pub number-headed : (place n : ℕ) (l : OrderLine) → place < 6 → isBegin l ≡ false
       → ((a b c d e f : ℕ) (k : Kinds) → take place (saidBy (a ∷ b ∷ c ∷ d ∷ e ∷ f ∷ []) k) ++ (l ∷ []) ≡ take (place + 1) (saidBy (set (a ∷ b ∷ c ∷ d ∷ e ∷ f ∷ []) place n) k))
-      → Headed st ct said l (cond (eqb (length said) place) 0 10) (stays (numberAt place n v) st ct)
+      → Headed d said l (cond (eqb (length said) place) 0 10) (stays (numberAt place n v) d)
   number-headed place n l p other placed =
-      subst (λ (m : ℕ). Headed st ct said l (cond (eqb m place) 0 10) (stays (numberAt place n v) st ct)) stage-is
-      (both-picked (λ (m : ℕ) (s : Step). Headed st ct said l m (stays s st ct)) (eqb (v .stage) place)
+      subst (λ (m : ℕ). Headed d said l (cond (eqb m place) 0 10) (stays (numberAt place n v) d)) stage-is
+      (both-picked (λ (m : ℕ) (s : Step). Headed d said l m (stays s d)) (eqb (v .stage) place)
       (λ e.
       let at = eqb-true (v .stage) place e in
       record {
@@ -90,16 +93,15 @@ module _ (v : Reading) (st ct : List ℕ) (said : List OrderLine) (h : Heading v
             skipped = h .skipped;
           },
           refl,
-          refl,
         );
         begun = λ z f. absurd (true≢false (sym f ∙ other));
       })
       (λ e. refuses l))
 
-  pub kinds-headed : (k : Kinds) → Headed st ct said (Counting k) (cond (eqb (length said) 6) 0 10) (stays (kindsAt k v) st ct)
+  pub kinds-headed : (k : Kinds) → Headed d said (Counting k) (cond (eqb (length said) 6) 0 10) (stays (kindsAt k v) d)
   kinds-headed k =
-      subst (λ (m : ℕ). Headed st ct said (Counting k) (cond (eqb m 6) 0 10) (stays (kindsAt k v) st ct)) stage-is
-      (both-picked (λ (m : ℕ) (s : Step). Headed st ct said (Counting k) m (stays s st ct)) (eqb (v .stage) 6)
+      subst (λ (m : ℕ). Headed d said (Counting k) (cond (eqb m 6) 0 10) (stays (kindsAt k v) d)) stage-is
+      (both-picked (λ (m : ℕ) (s : Step). Headed d said (Counting k) m (stays s d)) (eqb (v .stage) 6)
       (λ e.
       let at = eqb-true (v .stage) 6 e in
       record {
@@ -112,7 +114,6 @@ module _ (v : Reading) (st ct : List ℕ) (said : List OrderLine) (h : Heading v
             reads = ap (λ (s : List OrderLine). s ++ (Counting k ∷ [])) (so-far 6 at);
             skipped = h .skipped;
           },
-          refl,
           refl,
         );
         begun = λ z f. absurd (true≢false (sym f));

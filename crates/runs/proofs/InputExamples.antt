@@ -4,11 +4,12 @@ use mathlib.Core.Path.{_≡_, refl}
 use mathlib.Core.List.{List, [], _∷_, _++_, map}
 use lib.ListN.{replicate}
 use Rattle.lists.specs.Tests.{anyTo, allLe}
-use Rattle.cache.specs.Cache.{blockOf}
+use Rattle.cache.specs.Cache.{blockOf, ref}
+use Rattle.taking.specs.Opening.{unopened}
 use Rattle.lines.specs.Bytes.{text}
 use Rattle.lines.specs.TraceLine.{inAddress, inGap, atGap, atLabel, traceLineOf}
 use Rattle.lines.specs.OrderLine.{startsWith, allDecimal, isNumber, decimal, numbered, whole, orderLineOf}
-use Rattle.runs.specs.Input.{headerOf, traceOf, countedOf, referencesOf}
+use Rattle.runs.specs.Input.{headerOf, traceOf, givenIn, givenOf}
 use Rattle.runs.specs.Endings.{Ending, endsAt, traceEnding, inputEnding}
 
 -- the order's lines, of that room and those refs
@@ -39,11 +40,11 @@ table =
     ∷ ([], endsAt 10 1)
     ∷ []
 
-pub input-examples : map (λ e. inputEnding (replicate 8 0) (replicate 4 0) [] (e .0)) table ≡ map (λ e. e .1) table
+pub input-examples : map (λ e. inputEnding (unopened (replicate 8 0) (replicate 4 0)) [] (e .0)) table ≡ map (λ e. e .1) table
 unfolding inputEnding traceEnding traceLineOf atLabel atGap inGap inAddress orderLineOf numbered whole startsWith isNumber allDecimal decimal blockOf anyTo allLe
 input-examples = refl
 
-pub reference-examples : map (λ lines. referencesOf lines) ((order (text "room=8") (text "refs=9") ++ begin ++ trace) ∷ (order (text "room=8") (text "refs=9") ++ (text "kinds=data" ∷ begin) ++ trace) ∷ [])
-    ≡ (0 ∷ 16 ∷ 32 ∷ 0 ∷ 20 ∷ 64 ∷ 0 ∷ 32 ∷ []) ∷ (64 ∷ []) ∷ []
-unfolding headerOf traceOf countedOf traceLineOf atLabel atGap inGap inAddress orderLineOf numbered whole startsWith isNumber allDecimal decimal
+pub reference-examples : map (λ lines. givenOf lines) ((order (text "room=8") (text "refs=9") ++ begin ++ trace) ∷ (order (text "room=8") (text "refs=9") ++ (text "kinds=data" ∷ begin) ++ trace) ∷ [])
+    ≡ map (map ref) ((0 ∷ 16 ∷ 32 ∷ 0 ∷ 20 ∷ 64 ∷ 0 ∷ 32 ∷ []) ∷ (64 ∷ []) ∷ [])
+unfolding headerOf traceOf givenIn traceLineOf atLabel atGap inGap inAddress orderLineOf numbered whole startsWith isNumber allDecimal decimal
 reference-examples = refl

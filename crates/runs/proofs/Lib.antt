@@ -1,9 +1,6 @@
-pub mod AnswerLaws
 pub mod BeginLaws
-pub mod CallLaws
 pub mod EndingLaws
 pub mod HeaderLaws
-pub mod HistoryLaws
 pub mod InputExamples
 pub mod InputLaws
 pub mod NumberLaws

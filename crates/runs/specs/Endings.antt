@@ -3,16 +3,17 @@
 use Prim.Native.Nat.{ℕ, _+_}
 use mathlib.Core.Bool.{Bool, false, cond, not, _&&_, _||_}
 use mathlib.Core.List.{List, [], _∷_, _++_}
-use lib.Dec.{eqb, leb}
+use lib.Dec.{eqb, ltb, leb}
 use lib.ListN.{length}
-use Rattle.lists.specs.Members.{mem}
+use Rattle.lists.specs.Sums.{total}
 use Rattle.lists.specs.Runs.{after}
 use Rattle.lists.specs.Tests.{firstOf, anyTo}
-use Rattle.cache.specs.Cache.{blockOf, touchesOf}
+use Rattle.cache.specs.Cache.{Given, ref, referred, eventsOf}
 use Rattle.cache.specs.Stack.{stackStep}
 use Rattle.units.specs.Refusals.{done, refsReached, stackFull, badOrderLine, badTraceLine, tooManyLines}
 use Rattle.order.specs.declared.Order.{Order}
 use Rattle.order.specs.Limits.{sizes}
+use Rattle.taking.specs.World.{World}
 use Rattle.taking.specs.Opening.{openAnswer}
 use Rattle.lines.specs.declared.Kinds.{Kinds}
 use Rattle.lines.specs.declared.OrderLine.{OrderLine}
@@ -21,7 +22,7 @@ use Rattle.lines.specs.declared.TraceLine.{TraceLine}
 use Rattle.lines.specs.declared.TraceLine.the-variants.{Ref, Skipped, Refused as BadTrace}
 use Rattle.lines.specs.OrderLine.{orderLineOf, countsKind}
 use Rattle.lines.specs.TraceLine.{traceLineOf}
-use Rattle.runs.specs.Input.{isBegin, orderIn, kindsIn, addressOf}
+use Rattle.runs.specs.Input.{isBegin, orderIn, kindsIn, givenBy}
 
 -- the answer, and its line: that of the refusal, or the last where the answer is 0
 pub record Ending : Type 0 where
@@ -37,34 +38,31 @@ listed = 0 ∷ 1 ∷ 2 ∷ 3 ∷ 5 ∷ 6 ∷ 10 ∷ 11 ∷ 26 ∷ []
 
 -- ---- in the trace
 
--- the distinct blocks of 2^b bytes that were seen, most recent first
-abbrev pub seenIn : ℕ → List ℕ → List ℕ
-seenIn b past = after stackStep [] (touchesOf b past)
+-- the distinct blocks of 2^b bytes that are seen once g comes after `past` are more than room
+abbrev pub isFullAfter : Order → List Given → Given → ℕ → Bool
+isFullAfter o past g b = ltb (o .room) (length (after stackStep [] (eventsOf b (past ++ (g ∷ [])))))
 
--- at the block size b the block of the next reference is new, and its stack is full
-abbrev pub isFullAfter : Order → List ℕ → ℕ → ℕ → Bool
-isFullAfter o past a b = not (mem (blockOf b a) (seenIn b past)) && leb (o .room) (length (seenIn b past))
-
--- one more reference after `past`: 5 where the references taken equal refs, 6 where at some block size the block is new and its stack is full
-abbrev pub refAnswer : Order → List ℕ → ℕ → ℕ
-refAnswer o past a = firstOf ((eqb (length past) (o .refs), refsReached) ∷ (anyTo (sizes o) (λ (k : ℕ). isFullAfter o past a (o .bmin .0 + k)), stackFull) ∷ [])
+-- one more after `past`: 5 where the references taken equal refs, 6 where at some block size the blocks seen would be more than room
+abbrev pub refAnswer : Order → List Given → Given → ℕ
+refAnswer o past g =
+    firstOf ((eqb (total referred past) (o .refs), refsReached) ∷ (anyTo (sizes o) (λ (k : ℕ). isFullAfter o past g (o .bmin .0 + k)), stackFull) ∷ [])
 
 -- a line of the trace: only a reference of a kind that is counted is taken
-abbrev pub traceAnswer : Order → Kinds → List ℕ → TraceLine → ℕ
-traceAnswer o kinds past (Ref kind a) = cond (countsKind kinds kind) (refAnswer o past (a .0)) done
+abbrev pub traceAnswer : Order → Kinds → List Given → TraceLine → ℕ
+traceAnswer o kinds past (Ref kind a) = cond (countsKind kinds kind) (refAnswer o past (ref (a .0))) done
 traceAnswer o kinds past Skipped = done
 traceAnswer o kinds past (BadTrace n) = badTraceLine
 
 -- the line after n others: 26 is decided before it is read
-abbrev pub nextAnswer : Order → Kinds → List ℕ → ℕ → List ℕ → ℕ
+abbrev pub nextAnswer : Order → Kinds → List Given → ℕ → List ℕ → ℕ
 nextAnswer o kinds past n line = cond (leb 4294967295 n) tooManyLines (traceAnswer o kinds past (traceLineOf line))
 
 -- the lines that are left, after n lines of the input and the references `past`
-unfoldable pub traceEnding : Order → Kinds → List ℕ → ℕ → List (List ℕ) → Ending
+unfoldable pub traceEnding : Order → Kinds → List Given → ℕ → List (List ℕ) → Ending
 traceEnding o kinds past n [] = endsAt done n
 traceEnding o kinds past n (line ∷ more) =
     cond (eqb (nextAnswer o kinds past n line) 0)
-    (traceEnding o kinds (past ++ addressOf kinds (traceLineOf line)) (n + 1) more)
+    (traceEnding o kinds (past ++ givenBy kinds (traceLineOf line)) (n + 1) more)
     (endsAt (nextAnswer o kinds past n line) (n + 1))
 
 -- ---- before it
@@ -82,15 +80,15 @@ isInPlace n Begin = eqb n 6 || eqb n 7
 isInPlace n (BadOrder answer) = false
 
 -- one more line, after those that read as `said`: 10 where it is malformed or out of place; limits and tables are checked at the begin line
-abbrev pub orderAnswer : List ℕ → List ℕ → List OrderLine → OrderLine → ℕ
-orderAnswer st ct said l = cond (isInPlace (length said) l) (cond (isBegin l) (openAnswer (orderIn said) st ct) done) badOrderLine
+abbrev pub orderAnswer : World → List OrderLine → OrderLine → ℕ
+orderAnswer w said l = cond (isInPlace (length said) l) (cond (isBegin l) (openAnswer (orderIn said) w) done) badOrderLine
 
 -- the lines that are left, after those that read as `said`: a missing begin line is refused one past the last
-unfoldable pub inputEnding : List ℕ → List ℕ → List OrderLine → List (List ℕ) → Ending
-inputEnding st ct said [] = endsAt badOrderLine (length said + 1)
-inputEnding st ct said (line ∷ more) =
-    cond (eqb (orderAnswer st ct said (orderLineOf line)) 0)
+unfoldable pub inputEnding : World → List OrderLine → List (List ℕ) → Ending
+inputEnding w said [] = endsAt badOrderLine (length said + 1)
+inputEnding w said (line ∷ more) =
+    cond (eqb (orderAnswer w said (orderLineOf line)) 0)
     (cond (isBegin (orderLineOf line))
     (traceEnding (orderIn said) (kindsIn said) [] (length said + 1) more)
-    (inputEnding st ct (said ++ (orderLineOf line ∷ [])) more))
-    (endsAt (orderAnswer st ct said (orderLineOf line)) (length said + 1))
+    (inputEnding w (said ++ (orderLineOf line ∷ [])) more))
+    (endsAt (orderAnswer w said (orderLineOf line)) (length said + 1))

@@ -5,6 +5,7 @@ use mathlib.Core.Path.{_≡_}
 use mathlib.Core.Bool.{Bool, true, false, cond}
 use mathlib.Core.List.{List, [], _∷_, _++_}
 use lib.ListN.{length, getD}
+use Rattle.cache.specs.Cache.{Given, ref}
 use Rattle.order.specs.declared.Order.{Order}
 use Rattle.lines.specs.Bytes.{longest}
 use Rattle.lines.specs.declared.Kinds.{Kinds}
@@ -17,20 +18,17 @@ use Rattle.lines.specs.OrderLine.{orderLineOf, countsKind}
 use Rattle.lines.specs.TraceLine.{traceLineOf}
 use Rattle.reading.specs.declared.Reading.{Reading}
 use Rattle.reading.specs.declared.Step.{Step}
-use Rattle.reading.specs.Reading.{Outcome, stays, longLine, ended, Steps}
+use Rattle.reading.specs.Reading.{Desk, Outcome, outcome, stays, longLine, ended, Steps}
 
 -- ---- a run
 
--- Calls lead from the state v and the tables st and ct, over the lines, to the outcome: each line goes to `step`, one too long for the line
--- buffer to `long_line`, and the end to `ended`. A call is anything within its contract, and the first that is refused ends the run.
-pub data Runs : Reading → List ℕ → List ℕ → List (List ℕ) → Outcome → Type 0 where
-  at-end : {v : Reading} {st ct : List ℕ} {r : Step} → r ≡ ended v → Runs v st ct [] (stays r st ct)
-  done : {v : Reading} {st ct line : List ℕ} {more : List (List ℕ)} {r : Step} {st′ ct′ : List ℕ} {o : Outcome}
-      → Steps v line st ct r st′ ct′ → r .answer ≡ 0 → Runs (r .next) st′ ct′ more o → Runs v st ct (line ∷ more) o
-  refused : {v : Reading} {st ct line : List ℕ} {more : List (List ℕ)} {r : Step} {st′ ct′ : List ℕ}
-      → Steps v line st ct r st′ ct′ → (r .answer ≡ 0 → ⊥) → Runs v st ct (line ∷ more) (stays r st′ ct′)
-  too-long : {v : Reading} {st ct line : List ℕ} {more : List (List ℕ)} {r : Step}
-      → longest < length line → r ≡ longLine v → Runs v st ct (line ∷ more) (stays r st ct)
+-- Calls lead from d, over the lines, to the outcome: each line goes to `step`, one too long for the line buffer to `long_line`, and the end to
+-- `ended`. A call is anything within its contract, and the first that is refused ends the run.
+pub data Runs : Desk → List (List ℕ) → Outcome → Type 0 where
+  at-end : {d : Desk} {r : Step} → r ≡ ended (d .reading) → Runs d [] (stays r d)
+  done : {d d′ : Desk} {line : List ℕ} {more : List (List ℕ)} {n : ℕ} {o : Outcome} → Steps d line n d′ → n ≡ 0 → Runs d′ more o → Runs d (line ∷ more) o
+  refused : {d d′ : Desk} {line : List ℕ} {more : List (List ℕ)} {n : ℕ} → Steps d line n d′ → (n ≡ 0 → ⊥) → Runs d (line ∷ more) (outcome n d′)
+  too-long : {d : Desk} {line : List ℕ} {more : List (List ℕ)} {r : Step} → longest < length line → r ≡ longLine (d .reading) → Runs d (line ∷ more) (stays r d)
 
 -- ---- the order's lines
 
@@ -95,17 +93,17 @@ kindsIn l = kindsGiven (getD l 6 Begin)
 
 -- ---- the trace
 
--- the address of a line, where it is a reference of a kind that is counted
-abbrev pub addressOf : Kinds → TraceLine → List ℕ
-addressOf kinds (Ref kind a) = cond (countsKind kinds kind) (a .0 ∷ []) []
-addressOf kinds Skipped = []
-addressOf kinds (BadTrace n) = []
+-- what a line gives: a reference of a kind that is counted
+abbrev pub givenBy : Kinds → TraceLine → List Given
+givenBy kinds (Ref kind a) = cond (countsKind kinds kind) (ref (a .0) ∷ []) []
+givenBy kinds Skipped = []
+givenBy kinds (BadTrace n) = []
 
--- the addresses of the references that are counted, in order
-unfoldable pub countedOf : Kinds → List (List ℕ) → List ℕ
-countedOf kinds [] = []
-countedOf kinds (line ∷ more) = addressOf kinds (traceLineOf line) ++ countedOf kinds more
+-- what the lines give, in order
+unfoldable pub givenIn : Kinds → List (List ℕ) → List Given
+givenIn kinds [] = []
+givenIn kinds (line ∷ more) = givenBy kinds (traceLineOf line) ++ givenIn kinds more
 
--- of the whole input: those of the lines after the begin line, by the kinds of the lines before it
-abbrev pub referencesOf : List (List ℕ) → List ℕ
-referencesOf lines = countedOf (kindsIn (headerOf lines)) (traceOf lines)
+-- of the whole input: the lines after the begin line, by the kinds of the lines before it
+abbrev pub givenOf : List (List ℕ) → List Given
+givenOf lines = givenIn (kindsIn (headerOf lines)) (traceOf lines)

@@ -4,11 +4,14 @@ use Prim.Native.Nat.{ℕ}
 use mathlib.Core.Path.{_≡_, refl}
 use mathlib.Core.List.{List, [], _∷_, map}
 use Rattle.lists.specs.Sums.{total}
-use Rattle.cache.specs.Cache.{blockOf, setOf, Event, touch, hit, miss, missed, simulate, missesOver}
-use Rattle.cache.proofs.Worked.{trace}
+use Rattle.cache.specs.Cache.{blockOf, setOf, Event, touch, hit, miss, missed, simulate, ref, missesOver}
 use Rattle.strip.specs.Strip.{keptOf, entryOf, valuesTo}
 
 -- ---- the worked trace
+
+-- the addresses 0, 10, 20, 0, 14, 40, 0, 20 (hex)
+abbrev trace : List ℕ
+trace = 0x0 ∷ 0x10 ∷ 0x20 ∷ 0x0 ∷ 0x14 ∷ 0x40 ∷ 0x0 ∷ 0x20 ∷ []
 
 pub worked : keptOf 4 2 trace ≡ 0x0 ∷ 0x10 ∷ 0x20 ∷ 0x40 ∷ 0x0 ∷ []
 unfolding blockOf setOf
@@ -30,17 +33,17 @@ empty-keeps-none b s = refl
 -- ---- mistakes: in each pair the first is what the stripped list gives, the second what the full list does
 
 -- stripped at s = 1 and used for fewer sets, s = 0
-pub fewer-sets : map (missesOver 4 0 1) (keptOf 4 1 (0x0 ∷ 0x10 ∷ 0x0 ∷ []) ∷ (0x0 ∷ 0x10 ∷ 0x0 ∷ []) ∷ []) ≡ 2 ∷ 3 ∷ []
+pub fewer-sets : map (λ l. missesOver 4 0 1 (map ref l)) (keptOf 4 1 (0x0 ∷ 0x10 ∷ 0x0 ∷ []) ∷ (0x0 ∷ 0x10 ∷ 0x0 ∷ []) ∷ []) ≡ 2 ∷ 3 ∷ []
 unfolding blockOf setOf
 fewer-sets = refl
 
 -- stripped at b = 5 and used for smaller blocks, b = 4
-pub smaller-blocks : map (missesOver 4 1 1) (keptOf 5 1 (0x0 ∷ 0x10 ∷ 0x0 ∷ []) ∷ (0x0 ∷ 0x10 ∷ 0x0 ∷ []) ∷ []) ≡ 1 ∷ 2 ∷ []
+pub smaller-blocks : map (λ l. missesOver 4 1 1 (map ref l)) (keptOf 5 1 (0x0 ∷ 0x10 ∷ 0x0 ∷ []) ∷ (0x0 ∷ 0x10 ∷ 0x0 ∷ []) ∷ []) ≡ 1 ∷ 2 ∷ []
 unfolding blockOf setOf
 smaller-blocks = refl
 
 -- stripped at b = 4 and used for larger blocks, b = 5
-pub larger-blocks : map (missesOver 5 1 1) (keptOf 4 1 (0x0 ∷ 0x50 ∷ 0x0 ∷ []) ∷ (0x0 ∷ 0x50 ∷ 0x0 ∷ []) ∷ []) ≡ 2 ∷ 3 ∷ []
+pub larger-blocks : map (λ l. missesOver 5 1 1 (map ref l)) (keptOf 4 1 (0x0 ∷ 0x50 ∷ 0x0 ∷ []) ∷ (0x0 ∷ 0x50 ∷ 0x0 ∷ []) ∷ []) ≡ 2 ∷ 3 ∷ []
 unfolding blockOf setOf
 larger-blocks = refl
 

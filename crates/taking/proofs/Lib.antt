@@ -7,4 +7,5 @@ pub mod OutcomeLaws
 pub mod RatioExamples
 pub mod RatioLaws
 pub mod RoundingLaws
+pub mod TakenLaws
 pub mod TopLaws

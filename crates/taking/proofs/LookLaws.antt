@@ -18,8 +18,8 @@ use Rattle.lists.proofs.MemberLaws.{length-keep, length-keep-le, absent-above, 
 use Rattle.cache.specs.Cache.{setOf}
 use Rattle.cache.specs.Stack.{depth}
 use Rattle.cache.proofs.SetLaws.{set-fewer, shared}
-use Rattle.order.specs.Limits.{sizes}
-use Rattle.taking.specs.Places.{rows, usedOf, stackAt, blockAt, depthAt}
+use Rattle.order.specs.Limits.{sizes, rows}
+use Rattle.taking.specs.Places.{usedOf, stackAt, blockAt, depthAt}
 use Rattle.taking.specs.Parts.{Bumped, Looked, Fit}
 use Rattle.taking.specs.declared.Opened.{Opened}
 use Rattle.taking.proofs.NeedLaws.{stack-fits}
@@ -54,7 +54,7 @@ pub record Left (v : Opened) (st : List ℕ) (a k i : ℕ) (ds : List ℕ) : Typ
 
 pub length-stack : (v : Opened) (st : List ℕ) (m k : ℕ) → Fit v (length st) m → k < sizes (v .order) → length (stackAt v st k) ≡ usedOf v k
 length-stack v st m k f h =
-    length-take-le (usedOf v k) (drop (k * v .order .room) st) (rw (length-drop (k * v .order .room) st) (omega (arith, stack-fits v (length st) m k f h, f .13 k h)))
+    length-take-le (usedOf v k) (drop (k * v .order .room) st) (rw (length-drop (k * v .order .room) st) (omega (arith, stack-fits v (length st) m k f h, f .used k h)))
 
 pub read-stack : (v : Opened) (st : List ℕ) (k i : ℕ) → i < usedOf v k → getD (stackAt v st k) i 0 ≡ getD st (k * v .order .room + i) 0
 read-stack v st k i h = getD-take (usedOf v k) (drop (k * v .order .room) st) i 0 h ∙ getD-drop (k * v .order .room) st i 0
@@ -112,8 +112,8 @@ module _ (v : Opened) (st : List ℕ) (a m k : ℕ) (f : Fit v (length st) m) (h
     walk-on ds′ g ne same b = record {
       inside = omega arith;
       long = same ∙ w .long;
-      deep = λ j s p q. b .before (j * 15 + s) (omega (arith, f)) ∙ w .deep j s p q;
-      blank = λ t p. b .past t (omega (arith, f)) ∙ w .blank t p;
+      deep = λ j s p q. b .before (j * 15 + s) (omega (arith, f .numbers, f .ceiling)) ∙ w .deep j s p q;
+      blank = λ t p. b .past t (omega (arith, f .numbers, f .ceiling)) ∙ w .blank t p;
       absent = rw (add-one i) (absent-suc x i (stackAt v st k) inside (w .absent) (ap (eqb x) here ∙ ne-eqb x y (λ e. ne (sym e))));
       counted = counted;
     }
@@ -132,7 +132,7 @@ module _ (v : Opened) (st : List ℕ) (a m k : ℕ) (f : Fit v (length st) m) (h
 
         counted : (s : ℕ) → s < rows (v .order) → getD ds′ (k * 15 + s) 0 ≡ length (keep (λ y. eqb (setOf s x) (setOf s y)) (take (i + 1) (stackAt v st k)))
         counted s q =
-            let law = shared s 32 x y (omega (arith, f)) in
+            let law = shared s 32 x y (omega (arith, f .numbers, f .ceiling)) in
             let one = count-suc (λ z. eqb (setOf s x) (setOf s z)) i (stackAt v st k) inside ∙ ap (λ (n : ℕ). cond (eqb (setOf s x) (setOf s n)) (suc (length (keep (λ z. eqb (setOf s x) (setOf s z)) (take i (stackAt v st k))))) (length (keep (λ z. eqb (setOf s x) (setOf s z)) (take i (stackAt v st k))))) here in
             rw (add-one i)
             (cases (leb s (trailingZeros 32 (bitXor x y)))

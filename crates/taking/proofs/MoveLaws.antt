@@ -17,7 +17,7 @@ use Rattle.lists.proofs.MemberLaws.{length-front, ltb·zero-suc}
 use Rattle.lists.proofs.PartLaws.{drop-rows}
 use Rattle.cache.specs.Cache.{blockOf}
 use Rattle.order.specs.Limits.{sizes}
-use Rattle.taking.specs.Taking.{topped}
+use Rattle.taking.specs.Plain.{topped}
 use Rattle.taking.specs.Parts.{front, toppedBy, Roomed}
 use Rattle.taking.specs.declared.Opened.{Opened}
 

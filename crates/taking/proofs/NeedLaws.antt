@@ -2,18 +2,22 @@
 -- Assumes nothing.
 use Prim.Native.Nat.{ℕ, _+_, _*_, _≤_, _<_}
 use mathlib.Core.Path.{_≡_, refl, sym, _∙_}
-use mathlib.Core.Bool.{Bool, true, false, not, _||_, true≢false}
+use mathlib.Core.Bool.{Bool, true, false, cond, not, _||_, true≢false}
+use lib.ListN.{length}
 use native.Mathlib.Nat.{mul-le-mul}
 use native.Mathlib.Omega.{arith}
 use lib.Dec.{eqb, ltb}
-use borrow.Author.Tests.{not-true, not-false, ltb-false, eqb-false}
+use borrow.Author.Tests.{not-true, not-false, ltb-false, le-ltb, eqb-false}
 use Rattle.lists.specs.Tests.{All≤, anyTo}
 use Rattle.lists.proofs.PartLaws.{row-in, rows-le}
-use Rattle.lists.proofs.TestLaws.{all-facts, none-first, any-not}
+use Rattle.lists.proofs.TestLaws.{all-facts, all-yes, none-first, any-not, any-none-of}
 use Rattle.order.specs.declared.Order.{Order}
-use Rattle.order.specs.Limits.{limits, within, sizes}
-use Rattle.taking.specs.Places.{rows, stackNeed, countNeed, usedOf}
-use Rattle.taking.specs.Taking.{isForeign}
+use Rattle.order.specs.Limits.{limits, within, sizes, rows, stackNeed, countNeed}
+use Rattle.taking.specs.Places.{usedOf}
+use Rattle.taking.specs.Taking.{isForeign, someSize, takeAnswer}
+use Rattle.taking.specs.World.{World}
+use Rattle.sizes.specs.Size.{isFull, isOver}
+use Rattle.cache.specs.Cache.{Given}
 use Rattle.taking.specs.Parts.{earlyAnswer, Fit, Grid}
 use Rattle.taking.specs.declared.Opened.{Opened}
 
@@ -38,7 +42,7 @@ needs-small o f = (mul-le-mul {n₂ = 8} {m₂ = 1048576} few (omega (arith, f))
 
 -- all rows of an order that fits
 pub needs-few : (v : Opened) (n m : ℕ) → Fit v n m → sizes (v .order) * rows (v .order) ≤ 120
-needs-few v n m f = mul-le-mul {n₁ = sizes (v .order)} {m₁ = rows (v .order)} {n₂ = 8} {m₂ = 15} (omega (arith, f)) (omega (arith, f))
+needs-few v n m f = mul-le-mul {n₁ = sizes (v .order)} {m₁ = rows (v .order)} {n₂ = 8} {m₂ = 15} (omega (arith, f .numbers)) (omega (arith, f .numbers))
 
 -- the rows of group k, in a table that has room for all
 module _ (n r w m k : ℕ) (g : Grid n r w m) (h : k < n) where
@@ -50,11 +54,11 @@ module _ (n r w m k : ℕ) (g : Grid n r w m) (h : k < n) where
 
 -- the stack of size k, in the table of an order that fits
 pub stack-fits : (v : Opened) (n m k : ℕ) → Fit v n m → k < sizes (v .order) → k * v .order .room + v .order .room ≤ n
-stack-fits v n m k f h = omega (arith, row-in k (sizes (v .order)) (v .order .room) h, f .11)
+stack-fits v n m k f h = omega (arith, row-in k (sizes (v .order)) (v .order .room) h, f .long)
 
 -- the counts of an order that fits
 pub grid-of : (v : Opened) (n m : ℕ) → Fit v n m → Grid (sizes (v .order)) (rows (v .order)) (v .order .ways) m
-grid-of v n m f = (omega (arith, f), omega (arith, f), f .5, f .12)
+grid-of v n m f = (omega (arith, f .numbers), omega (arith, f .numbers), omega (arith, f .numbers), f .wide)
 
 or-none : (a b : Bool) → (a || b) ≡ false → (a ≡ false) × (b ≡ false)
 or-none true b e = absurd (true≢false e)
@@ -68,27 +72,43 @@ fit-of v n m e =
     let third = none-first (ltb m (countNeed (v .order))) 2 _ (second .1) in
     let fourth = none-first (isForeign v) 3 _ (third .1) in
     let fifth = none-first (eqb (v .taken) (v .order .refs)) 4 0 (fourth .1) in
-    let f = all-facts (limits (v .order)) (not-false (within (v .order)) (first .0)) in
     let own = or-none (anyTo (sizes (v .order)) (λ (k : ℕ). ltb (v .order .room) (usedOf v k))) (ltb (v .order .refs) (v .taken)) (fourth .0) in
     let below = ltb-false (v .order .refs) (v .taken) (own .1) in
     let less : v .taken ≡ v .order .refs → ⊥ = eqb-false (v .taken) (v .order .refs) (fifth .0) in
-    let long = ltb-false n (stackNeed (v .order)) (second .0) in
-    let wide = ltb-false m (countNeed (v .order)) (third .0) in (
-      (
-        omega (arith, f),
-        omega (arith, f),
-        omega (arith, f),
-        omega (arith, f),
-        omega (arith, f),
-        omega (arith, f),
-        omega (arith, f),
-        omega (arith, f),
-        omega (arith, f),
-        omega (arith, f),
-        below,
-        long,
-        wide,
-        (λ k h. ltb-false (v .order .room) (usedOf v k) (any-not (sizes (v .order)) (λ (k : ℕ). ltb (v .order .room) (usedOf v k)) (own .0) k h)),
-      ),
-      omega (arith, less),
+    let fit : Fit v n m = record {
+      numbers = all-facts (limits (v .order)) (not-false (within (v .order)) (first .0));
+      long = ltb-false n (stackNeed (v .order)) (second .0);
+      wide = ltb-false m (countNeed (v .order)) (third .0);
+      used = λ k h. ltb-false (v .order .room) (usedOf v k) (any-not (sizes (v .order)) (λ (k : ℕ). ltb (v .order .room) (usedOf v k)) (own .0) k h);
+      ceiling = below;
+    } in
+    (fit, omega (arith, less))
+
+-- the walks look at no count
+pub fit-walk : (v : Opened) (n m : ℕ) → Fit v n m → Fit v n (countNeed (v .order))
+fit-walk v n m f = record { numbers = f .numbers; long = f .long; wide = omega arith; used = f .used; ceiling = f .ceiling }
+
+-- the quick way looks at no stack
+pub fit-tops : (v : Opened) (n m : ℕ) → Fit v n m → Fit v (stackNeed (v .order)) m
+fit-tops v n m f = record { numbers = f .numbers; long = omega arith; wide = f .wide; used = f .used; ceiling = f .ceiling }
+
+-- and back: none of 1 to 4 applies where the state fits, and 5 not below refs
+or-both : (a b : Bool) → a ≡ false → b ≡ false → (a || b) ≡ false
+or-both a b e f = simp (e, f)
+
+pub own-of : (v : Opened) (n m : ℕ) → Fit v n m → isForeign v ≡ false
+own-of v n m f =
+    or-both (anyTo (sizes (v .order)) (λ (k : ℕ). ltb (v .order .room) (usedOf v k))) (ltb (v .order .refs) (v .taken))
+    (any-none-of (sizes (v .order)) (λ (k : ℕ). ltb (v .order .room) (usedOf v k)) (λ k h. le-ltb (v .order .room) (usedOf v k) (f .used k h)))
+    (le-ltb (v .order .refs) (v .taken) (f .ceiling))
+
+-- THE ANSWER where the state fits: 5, 6, 7 are left
+pub answer-by-sizes : (w : World) (g : Given) → Fit (w .state) (length (w .stacks)) (length (w .counts))
+    → takeAnswer w g ≡ cond (eqb (w .state .taken) (w .state .order .refs)) 5 (cond (someSize isFull w g) 6 (cond (someSize isOver w g) 7 0))
+answer-by-sizes w g f =
+    simp (
+      all-yes (limits (w .state .order)) (f .numbers),
+      le-ltb (length (w .stacks)) (stackNeed (w .state .order)) (f .long),
+      le-ltb (length (w .counts)) (countNeed (w .state .order)) (f .wide),
+      own-of (w .state) (length (w .stacks)) (length (w .counts)) f,
     )

@@ -2,21 +2,19 @@
 use Prim.Native.Nat.{ℕ}
 use mathlib.Core.Path.{_≡_, ap, _∙_, subst}
 use mathlib.Core.Bool.{Bool, true, false, cond}
-use mathlib.Core.List.{List}
 use Rattle.lists.specs.Tests.{allLe}
 use Rattle.lists.proofs.Cases.{cases}
 use Rattle.order.specs.declared.Order.{Order}
 use Rattle.order.specs.declared.Checked.{Checked}
 use Rattle.order.specs.Limits.{within, zeroOrder, Checks}
 use Rattle.taking.specs.Opening.{Opens}
-use Rattle.taking.specs.declared.Reply.{Reply}
+use Rattle.taking.specs.World.{World}
 
-pub opens-checked : (o : Order) (c : Checked) (st ct : List ℕ) (r : Reply) (st′ ct′ : List ℕ) → Checks o c → Opens (c .order) st ct r st′ ct′
-    → Opens o st ct r st′ ct′
+pub opens-checked : (o : Order) (c : Checked) (w : World) (n : ℕ) (w′ : World) → Checks o c → Opens (c .order) w n w′ → Opens o w n w′
 unfolding allLe
-opens-checked o c st ct r st′ ct′ k t =
+opens-checked o c w n w′ k t =
     cases (within o)
-    (λ e. subst (λ (o : Order). Opens o st ct r st′ ct′) (k .order ∙ ap (λ (x : Bool). cond x o zeroOrder) e) t)
+    (λ e. subst (λ (o : Order). Opens o w n w′) (k .order ∙ ap (λ (x : Bool). cond x o zeroOrder) e) t)
     (λ e.
-    let z = subst (λ (o : Order). Opens o st ct r st′ ct′) (k .order ∙ ap (λ (x : Bool). cond x o zeroOrder) e) t in
-    record { answer = simp e (z .answer); state = simp e (z .state); stacks = simp e (z .stacks); counts = simp e (z .counts) })
+    let z = subst (λ (o : Order). Opens o w n w′) (k .order ∙ ap (λ (x : Bool). cond x o zeroOrder) e) t in
+    record { answer = simp e (z .answer); left = simp e (z .left) })

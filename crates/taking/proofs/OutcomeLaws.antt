@@ -1,7 +1,7 @@
 -- From what the walks found to the outcome of a taking: the code's tests are the page's, and the answer decides the rest.
 -- Assumes nothing.
 use Prim.Native.Nat.{ℕ, zero, suc, _+_, _*_, _≤_, _<_}
-use mathlib.Core.Path.{_≡_, refl, sym, ap, _∙_}
+use mathlib.Core.Path.{_≡_, refl, sym, ap, ap₂, _∙_}
 use mathlib.Core.Bool.{Bool, true, false, cond, not, _&&_, false≢true}
 use mathlib.Core.List.{List}
 use native.Mathlib.Omega.{arith}
@@ -14,10 +14,16 @@ use Rattle.lists.specs.Tests.{anyTo}
 use Rattle.lists.proofs.Cases.{cases}
 use Rattle.lists.proofs.MemberLaws.{absent-above}
 use Rattle.lists.proofs.RaiseLaws.{groups-same}
-use Rattle.lists.proofs.TestLaws.{any-same, any-not}
-use Rattle.order.specs.Limits.{sizes, within}
-use Rattle.taking.specs.Places.{rows, stackNeed, countNeed, usedOf, stackAt, blockAt, foundAt, depthAt}
-use Rattle.taking.specs.Taking.{isForeign, fullAt, isOver, takeAnswer, stateDone, stacksDone, countsDone, Takes}
+use Rattle.lists.proofs.TestLaws.{settled-done, settled-not, any-same, any-not}
+use Rattle.cache.specs.Cache.{ref}
+use Rattle.order.specs.Limits.{sizes, within, rows, stackNeed, countNeed}
+use Rattle.taking.specs.Places.{usedOf, stackAt, blockAt, foundAt, depthAt}
+use Rattle.taking.specs.Plain.{fullAt, overAll, stateDone, stacksDone, countsDone}
+use Rattle.taking.specs.Taking.{isForeign, taken, someSize, takeAnswer, Takes}
+use Rattle.taking.specs.World.{world}
+use Rattle.sizes.specs.Size.{isFull, isOver}
+use Rattle.taking.proofs.NeedLaws.{answer-by-sizes}
+use Rattle.taking.proofs.TakenLaws.{full-each, over-each, taken-is}
 use Rattle.taking.specs.Parts.{earlyAnswer, Fit, Looked, foundBy, deepBy, Falling, Raisable, Roomed}
 use Rattle.taking.specs.declared.Opened.{Opened}
 use Rattle.taking.proofs.LookLaws.{length-stack, depth-falls}
@@ -35,7 +41,7 @@ module _ (v : Opened) (st : List ℕ) (a m : ℕ) (ps ds : List ℕ) (f : Fit v 
       cases (foundAt v st a k)
       (λ e.
       let left = ltb-true (getD ps k 0) (usedOf v k) (same-found k h ∙ e) in
-      simp e (lt-leb (v .order .room) (getD ps k 0) (omega (arith, f .13 k h))))
+      simp e (lt-leb (v .order .room) (getD ps k 0) (omega (arith, f .used k h))))
       (λ e.
       let up = ap length (absent-above (blockAt v a k) (stackAt v st k) e) in
       let left : getD ps k 0 ≡ usedOf v k = seen .place k h ∙ up ∙ length-stack v st m k f h in
@@ -44,7 +50,7 @@ module _ (v : Opened) (st : List ℕ) (a m : ℕ) (ps ds : List ℕ) (f : Fit v 
   pub full-is : anyTo (sizes (v .order)) (λ (k : ℕ). leb (v .order .room) (getD ps k 0)) ≡ anyTo (sizes (v .order)) (fullAt v st a)
   full-is = any-same (sizes (v .order)) (λ (k : ℕ). leb (v .order .room) (getD ps k 0)) (fullAt v st a) same-full
 
-  pub over-is : (ct : List ℕ) → overGroups (v .order .ways) (rows (v .order)) (foundBy (v .used) ps) (deepBy ds) (v .taken) (sizes (v .order)) ct ≡ isOver v st ct a
+  pub over-is : (ct : List ℕ) → overGroups (v .order .ways) (rows (v .order)) (foundBy (v .used) ps) (deepBy ds) (v .taken) (sizes (v .order)) ct ≡ overAll v st ct a
   over-is ct =
       any-same (sizes (v .order))
       (λ (k : ℕ). foundBy (v .used) ps k && anyTo (rows (v .order)) (overRow (v .order .ways) (k * rows (v .order)) (deepBy ds k) (v .taken) ct))
@@ -61,7 +67,7 @@ module _ (v : Opened) (st : List ℕ) (a m : ℕ) (ps ds : List ℕ) (f : Fit v 
   pub room-of : anyTo (sizes (v .order)) (λ (k : ℕ). leb (v .order .room) (getD ps k 0)) ≡ false
       → Roomed (sizes (v .order)) (v .order .room) (v .order .bmin .0) st (v .used) ps a
   room-of e k h =
-      (f .13 k h, leb-false (v .order .room) (getD ps k 0) (any-not (sizes (v .order)) (λ (k : ℕ). leb (v .order .room) (getD ps k 0)) e k h), seen .place k h)
+      (f .used k h, leb-false (v .order .room) (getD ps k 0) (any-not (sizes (v .order)) (λ (k : ℕ). leb (v .order .room) (getD ps k 0)) e k h), seen .place k h)
 
   pub falling-of : (k : ℕ) → k < sizes (v .order) → Falling (k * 15) (rows (v .order)) ds
   falling-of k h s t le g e =
@@ -103,35 +109,43 @@ first-five false false false false true rest = refl
 first-five false false false false false rest = refl
 
 module _ (v : Opened) (st ct : List ℕ) (a : ℕ) where
-  answer-is : takeAnswer v st ct a
-      ≡ cond (eqb (earlyAnswer v (length st) (length ct)) 0) (cond (anyTo (sizes (v .order)) (fullAt v st a)) 6 (cond (isOver v st ct a) 7 0)) (earlyAnswer v (length st) (length ct))
+  abbrev full : Bool
+  full = someSize isFull (world v st ct) (ref a)
+
+  abbrev over : Bool
+  over = someSize isOver (world v st ct) (ref a)
+
+  answer-is : takeAnswer (world v st ct) (ref a)
+      ≡ cond (eqb (earlyAnswer v (length st) (length ct)) 0) (cond full 6 (cond over 7 0)) (earlyAnswer v (length st) (length ct))
   answer-is =
       first-five (not (within (v .order))) (ltb (length st) (stackNeed (v .order))) (ltb (length ct) (countNeed (v .order))) (isForeign v) (eqb (v .taken) (v .order .refs))
-      (cond (anyTo (sizes (v .order)) (fullAt v st a)) 6 (cond (isOver v st ct a) 7 0))
+      (cond full 6 (cond over 7 0))
 
-  pub answer-early : (r : ℕ) → r ≡ earlyAnswer v (length st) (length ct) → (r ≡ 0 → ⊥) → r ≡ takeAnswer v st ct a
+  pub answer-early : (r : ℕ) → r ≡ earlyAnswer v (length st) (length ct) → (r ≡ 0 → ⊥) → r ≡ takeAnswer (world v st ct) (ref a)
   answer-early r e ne =
       sym (answer-is ∙ simp (ne-eqb (earlyAnswer v (length st) (length ct)) 0 (λ z. ne (e ∙ z))) (sym e))
 
-  pub answer-late : earlyAnswer v (length st) (length ct) ≡ 0 → (t u : Bool) → anyTo (sizes (v .order)) (fullAt v st a) ≡ t → isOver v st ct a ≡ u
-      → takeAnswer v st ct a ≡ cond t 6 (cond u 7 0)
-  answer-late e t u p q = answer-is ∙ simp (eq-eqb (earlyAnswer v (length st) (length ct)) 0 e, p, q)
+  pub answer-late : Fit v (length st) (length ct) → v .taken < v .order .refs → (t u : Bool) → anyTo (sizes (v .order)) (fullAt v st a) ≡ t → overAll v st ct a ≡ u
+      → takeAnswer (world v st ct) (ref a) ≡ cond t 6 (cond u 7 0)
+  answer-late f less t u p q =
+      let short = ne-eqb (v .taken) (v .order .refs) (λ z. omega arith) in
+      answer-by-sizes (world v st ct) (ref a) f
+      ∙ simp short (ap₂ (λ (x y : Bool). cond x 6 (cond y 7 0)) (full-each v st ct a f ∙ p) (over-each v st ct a f ∙ q))
 
   -- ---- the outcome
 
-  pub refused : (r : ℕ) → r ≡ takeAnswer v st ct a → (r ≡ 0 → ⊥) → Takes v st ct a (record { state = v; answer = r }) st ct
-  refused r e ne =
-      let no = ne-eqb (takeAnswer v st ct a) 0 (λ z. ne (e ∙ z)) in
-      record { answer = e; state = pick (stateDone v st a) v no; stacks = pick (stacksDone v st a) st no; counts = pick (countsDone v st ct a) ct no }
-    where
-      pick : {A : Type 0} (x y : A) → eqb (takeAnswer v st ct a) 0 ≡ false → y ≡ cond (eqb (takeAnswer v st ct a) 0) x y
-      pick x y is = sym (ap (λ (t : Bool). cond t x y) is)
+  pub refused : (r : ℕ) → r ≡ takeAnswer (world v st ct) (ref a) → (r ≡ 0 → ⊥) → Takes (world v st ct) (ref a) r (world v st ct)
+  refused r e ne = record {
+    answer = e;
+    left = sym (settled-not (takeAnswer (world v st ct) (ref a)) (taken (world v st ct) (ref a)) (world v st ct) (λ z. ne (e ∙ z)));
+  }
 
-  pub done : (v′ : Opened) (st′ ct′ : List ℕ) → takeAnswer v st ct a ≡ 0 → v′ ≡ stateDone v st a → st′ ≡ stacksDone v st a → ct′ ≡ countsDone v st ct a
-      → Takes v st ct a (record { state = v′; answer = 0 }) st′ ct′
-  done v′ st′ ct′ e p q r =
-      let yes = eq-eqb (takeAnswer v st ct a) 0 e in
-      record { answer = sym e; state = pick v′ (stateDone v st a) v yes p; stacks = pick st′ (stacksDone v st a) st yes q; counts = pick ct′ (countsDone v st ct a) ct yes r }
-    where
-      pick : {A : Type 0} (z x y : A) → eqb (takeAnswer v st ct a) 0 ≡ true → z ≡ x → z ≡ cond (eqb (takeAnswer v st ct a) 0) x y
-      pick z x y is p = p ∙ sym (ap (λ (t : Bool). cond t x y) is)
+  pub done : (v′ : Opened) (st′ ct′ : List ℕ) → Fit v (length st) (length ct) → takeAnswer (world v st ct) (ref a) ≡ 0
+      → v′ ≡ stateDone v st a → st′ ≡ stacksDone v st a → ct′ ≡ countsDone v st ct a → Takes (world v st ct) (ref a) 0 (world v′ st′ ct′)
+  done v′ st′ ct′ f z p q r = record {
+    answer = sym z;
+    left =
+        ap (λ (x : Opened). world x st′ ct′) p ∙ ap₂ (λ (x y : List ℕ). world (stateDone v st a) x y) q r
+        ∙ sym (taken-is v st ct a f)
+        ∙ sym (settled-done (takeAnswer (world v st ct) (ref a)) (taken (world v st ct) (ref a)) (world v st ct) z);
+  }

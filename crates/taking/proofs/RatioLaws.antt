@@ -14,8 +14,8 @@ use Rattle.lists.specs.Tests.{anyTo}
 use Rattle.units.specs.Refusals.{noReferences}
 use Rattle.lists.proofs.Cases.{cases}
 use Rattle.lists.proofs.TestLaws.{all-facts, none-first}
-use Rattle.order.specs.Limits.{limits, within, sizes}
-use Rattle.taking.specs.Places.{countNeed, usedOf}
+use Rattle.order.specs.Limits.{limits, within, sizes, countNeed}
+use Rattle.taking.specs.Places.{usedOf}
 use Rattle.taking.specs.Taking.{isForeign}
 use Rattle.taking.specs.Questions.{asked, has, hitsOf, missesAnswer, missesOf}
 use Rattle.taking.specs.Ratios.{ratiosAt, ratiosAnswer, ratiosFrom, ratiosOf}

@@ -15,12 +15,13 @@ use Rattle.lists.specs.Members.{mem, remove, above, keep}
 use Rattle.lists.specs.Tables.{part, writeAt, writtenRows, setLengths, raiseIf, raisedRows, raisedGroups, overRow}
 use Rattle.lists.specs.Tests.{anyTo}
 use Rattle.lists.proofs.Cases.{cases}
+use Rattle.lists.proofs.PartLaws.{write-same}
 use Rattle.lists.proofs.RaiseLaws.{raised-past, raised-yes, groups-same}
 use Rattle.lists.proofs.TestLaws.{any-yes, any-not, any-same, any-none-of}
 use Rattle.cache.specs.Cache.{setOf}
-use Rattle.order.specs.Limits.{sizes}
-use Rattle.taking.specs.Places.{rows, usedOf, stackAt, blockAt, foundAt, depthAt}
-use Rattle.taking.specs.Taking.{fullAt, isOver, topped, stateDone, stacksDone, countsDone}
+use Rattle.order.specs.Limits.{sizes, rows}
+use Rattle.taking.specs.Places.{usedOf, stackAt, blockAt, foundAt, depthAt}
+use Rattle.taking.specs.Plain.{fullAt, overAll, topped, stateDone, stacksDone, countsDone}
 use Rattle.taking.specs.Parts.{Fit, OnTop}
 use Rattle.taking.specs.declared.Opened.{Opened}
 use Rattle.taking.proofs.NeedLaws.{stack-fits}
@@ -94,13 +95,6 @@ raised-groups w r (suc n) l =
 
 -- ---- what is written over itself
 
-write-same : (base n : ℕ) (l : List ℕ) → base + n ≤ length l → writeAt base (part base n l) l ≡ l
-unfolding writeAt
-write-same base n l h =
-    ap (λ (m : ℕ). take base l ++ (part base n l ++ drop m (drop base l))) (length-take-le n (drop base l) (rw (length-drop base l) (omega arith)))
-    ∙ ap (λ (t : List ℕ). take base l ++ t) (take-append-drop n (drop base l))
-    ∙ take-append-drop base l
-
 written-same : (room : ℕ) (top : ℕ → List ℕ) (l : List ℕ) (n : ℕ) → ((k : ℕ) → k < n → writeAt (k * room) (top k) l ≡ l) → writtenRows room top n l ≡ l
 unfolding writtenRows
 written-same room top l zero h = refl
@@ -120,7 +114,7 @@ headed x (y ∷ q) h e =
     let t = eq-eqb x y (sym e) in
     (simp t, simp t, simp t (ap (λ (z : ℕ). z ∷ q) (sym e)))
 
-module _ (v : Opened) (st : List ℕ) (a m : ℕ) (f : Fit v (length st) m) (on : OnTop (sizes (v .order)) (v .order .room) (v .order .bmin .0) st (v .used) a) where
+module _ (v : Opened) (st : List ℕ) (a m : ℕ) (f : Fit v (length st) m) (on : OnTop v st a) where
   top-stack : (k : ℕ) → k < sizes (v .order) → (foundAt v st a k ≡ true) × (above (blockAt v a k) (stackAt v st k) ≡ []) × (topped v st a k ≡ stackAt v st k)
   top-stack k h =
       headed (blockAt v a k) (stackAt v st k) (rw (length-stack v st m k f h) (on k h .0)) (read-stack v st k 0 (on k h .0) ∙ ap (λ (n : ℕ). getD st n 0) (add-zero (k * v .order .room)) ∙ on k h .1)
@@ -131,7 +125,7 @@ module _ (v : Opened) (st : List ℕ) (a m : ℕ) (f : Fit v (length st) m) (on 
   pub top-full : anyTo (sizes (v .order)) (fullAt v st a) ≡ false
   top-full = any-none-of (sizes (v .order)) (fullAt v st a) (λ k h. simp (top-stack k h .0))
 
-  pub top-over : (ct : List ℕ) → anyTo (sizes (v .order) * rows (v .order)) (λ (s : ℕ). leb (v .taken) (getD ct (s * v .order .ways) 0)) ≡ isOver v st ct a
+  pub top-over : (ct : List ℕ) → anyTo (sizes (v .order) * rows (v .order)) (λ (s : ℕ). leb (v .taken) (getD ct (s * v .order .ways) 0)) ≡ overAll v st ct a
   top-over ct =
       sym
       (any-same (sizes (v .order))
@@ -141,7 +135,7 @@ module _ (v : Opened) (st : List ℕ) (a m : ℕ) (f : Fit v (length st) m) (on 
       ap (λ (t : Bool). t && anyTo (rows (v .order)) (overRow (v .order .ways) (k * rows (v .order)) (depthAt v st a k) (v .taken) ct)) (top-stack k h .0)
       ∙ any-same (rows (v .order)) (overRow (v .order .ways) (k * rows (v .order)) (depthAt v st a k) (v .taken) ct)
       (λ (s : ℕ). leb (v .taken) (getD ct ((k * rows (v .order) + s) * v .order .ways) 0))
-      (λ s g. over-top (v .order .ways) (k * rows (v .order)) (depthAt v st a k) (v .taken) ct s (top-depth k s h) (omega (arith, f))))
+      (λ s g. over-top (v .order .ways) (k * rows (v .order)) (depthAt v st a k) (v .taken) ct s (top-depth k s h) (omega (arith, f .numbers, f .ceiling))))
       ∙ any-groups (sizes (v .order)) (rows (v .order)) (λ (s : ℕ). leb (v .taken) (getD ct (s * v .order .ways) 0)))
 
   pub top-counts : (ct : List ℕ) → raisedRows (v .order .ways) 0 (λ (t : ℕ). 0) (sizes (v .order) * rows (v .order)) ct ≡ countsDone v st ct a
@@ -157,17 +151,17 @@ module _ (v : Opened) (st : List ℕ) (a m : ℕ) (f : Fit v (length st) m) (on 
       (written-same (v .order .room) (topped v st a) st (sizes (v .order))
       (λ k h.
       ap (λ (t : List ℕ). writeAt (k * v .order .room) t st) (top-stack k h .2)
-      ∙ write-same (k * v .order .room) (usedOf v k) st (omega (arith, stack-fits v (length st) m k f h, f .13 k h))))
+      ∙ write-same (k * v .order .room) (usedOf v k) st (omega (arith, stack-fits v (length st) m k f h, f .used k h))))
 
   pub top-state : record { order = v .order; taken = v .taken + 1; used = v .used } ≡ stateDone v st a
   top-state =
       ap (λ (u : List ℕ). record { order = v .order; taken = v .taken + 1; used = u })
       (sym (lengths-same (topped v st a) (v .used) (sizes (v .order)) (λ k h. ap length (top-stack k h .2) ∙ length-stack v st m k f h)))
 
-  -- where no count is over, each can go up by one
-  pub top-small : (ct : List ℕ) → anyTo (sizes (v .order) * rows (v .order)) (λ (s : ℕ). leb (v .taken) (getD ct (s * v .order .ways) 0)) ≡ false
-      → (s : ℕ) → s < sizes (v .order) * rows (v .order) → getD ct (s * v .order .ways) 0 < 4294967295
-  top-small ct e s h =
-      let under = leb-false (v .taken) (getD ct (s * v .order .ways) 0)
-      (any-not (sizes (v .order) * rows (v .order)) (λ (s : ℕ). leb (v .taken) (getD ct (s * v .order .ways) 0)) e s h) in
-      omega (arith, f)
+-- where no count is over, each can go up by one
+pub top-small : (v : Opened) (n m : ℕ) → Fit v n m → (ct : List ℕ) → anyTo (sizes (v .order) * rows (v .order)) (λ (s : ℕ). leb (v .taken) (getD ct (s * v .order .ways) 0)) ≡ false
+    → (s : ℕ) → s < sizes (v .order) * rows (v .order) → getD ct (s * v .order .ways) 0 < 4294967295
+top-small v n m f ct e s h =
+    let under = leb-false (v .taken) (getD ct (s * v .order .ways) 0)
+    (any-not (sizes (v .order) * rows (v .order)) (λ (s : ℕ). leb (v .taken) (getD ct (s * v .order .ways) 0)) e s h) in
+    omega (arith, f .numbers, f .ceiling)

@@ -7,11 +7,11 @@ use lib.Dec.{eqb, ltb}
 use lib.ListN.{length, take, drop, getD}
 use Rattle.lists.specs.Members.{remove, above}
 use Rattle.lists.specs.Tables.{part}
-use Rattle.lists.specs.Tests.{firstOf}
+use Rattle.lists.specs.Tests.{firstOf, All≤}
 use Rattle.cache.specs.Cache.{blockOf}
 use Rattle.units.specs.Refusals.{outsideLimits, shortStacks, shortCounts, foreignState, refsReached}
-use Rattle.order.specs.Limits.{within, sizes}
-use Rattle.taking.specs.Places.{rows, stackNeed, countNeed, usedOf, stackAt, blockAt, depthAt}
+use Rattle.order.specs.Limits.{limits, within, sizes, rows, stackNeed, countNeed}
+use Rattle.taking.specs.Places.{usedOf, stackAt, blockAt, depthAt}
 use Rattle.taking.specs.Taking.{isForeign}
 use Rattle.taking.specs.declared.Opened.{Opened}
 
@@ -21,17 +21,17 @@ earlyAnswer v n m =
     firstOf ((not (within (v .order)), outsideLimits) ∷ (ltb n (stackNeed (v .order)), shortStacks) ∷ (ltb m (countNeed (v .order)), shortCounts)
     ∷ (isForeign v, foreignState) ∷ (eqb (v .taken) (v .order .refs), refsReached) ∷ [])
 
--- what refusals 1 to 4 leave: the order's numbers fit, and so do tables of n and m entries
-abbrev pub Fit : Opened → ℕ → ℕ → Type 0
-Fit v n m =
-    (2 ≤ v .order .bmin .0) × (v .order .bmin .0 ≤ v .order .bmax .0) × (v .order .bmax .0 ≤ 12) × (v .order .bmax .0 - v .order .bmin .0 ≤ 7)
-    × (v .order .smax ≤ 14) × (1 ≤ v .order .ways) × (v .order .ways ≤ 16) × (1 ≤ v .order .room) × (v .order .room ≤ 1048576)
-    × (v .order .refs ≤ 4000000000) × (v .taken ≤ v .order .refs) × (stackNeed (v .order) ≤ n) × (countNeed (v .order) ≤ m)
-    × ((k : ℕ) → k < sizes (v .order) → usedOf v k ≤ v .order .room)
+-- what refusals 1 to 4 leave: the order's numbers are within their limits, tables of n and m entries are long enough, and the state is no foreign one
+pub record Fit (v : Opened) (n m : ℕ) : Type 0 where
+  pub numbers : All≤ (limits (v .order))
+  pub long : stackNeed (v .order) ≤ n
+  pub wide : countNeed (v .order) ≤ m
+  pub used : (k : ℕ) → k < sizes (v .order) → usedOf v k ≤ v .order .room
+  pub ceiling : v .taken ≤ v .order .refs
 
--- at each of the first n block sizes the block of address a is on top of its stack
-abbrev pub OnTop : ℕ → ℕ → ℕ → List ℕ → List ℕ → ℕ → Type 0
-OnTop n room bmin st us a = (k : ℕ) → k < n → (0 < getD us k 0) × (getD st (k * room) 0 ≡ blockOf (bmin + k) a)
+-- the block of address a is on top of the stack of every block size
+abbrev pub OnTop : Opened → List ℕ → ℕ → Type 0
+OnTop v st a = (k : ℕ) → k < sizes (v .order) → (0 < usedOf v k) × (getD st (k * v .order .room) 0 ≡ blockAt v a k)
 
 -- one more at each of the n places from base on that is at most base + z
 pub record Bumped (base n z : ℕ) (old new : List ℕ) : Type 0 where

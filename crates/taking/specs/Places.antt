@@ -9,19 +9,8 @@ use Rattle.lists.specs.Tables.{part}
 use Rattle.cache.specs.Cache.{blockOf}
 use Rattle.cache.specs.Stack.{depth}
 use Rattle.order.specs.declared.Order.{Order}
-use Rattle.order.specs.Limits.{sizes}
+use Rattle.order.specs.Limits.{rows}
 use Rattle.taking.specs.declared.Opened.{Opened}
-
--- every s from 0 to smax
-abbrev pub rows : Order → ℕ
-rows o = o .smax + 1
-
--- how many entries the order needs of the stack table and of the count table
-abbrev pub stackNeed : Order → ℕ
-stackNeed o = sizes o * o .room
-
-abbrev pub countNeed : Order → ℕ
-countNeed o = sizes o * rows o * o .ways
 
 -- where the count for (b, s, d) stands
 abbrev pub cell : Order → ℕ → ℕ → ℕ → ℕ

@@ -9,8 +9,8 @@ use Rattle.lists.specs.Sums.{sumTo}
 use Rattle.lists.specs.Tests.{firstOf, allLe}
 use Rattle.units.specs.Refusals.{outsideLimits, shortCounts, foreignState, notInOrder, countOver}
 use Rattle.order.specs.declared.Order.{Order}
-use Rattle.order.specs.Limits.{within}
-use Rattle.taking.specs.Places.{countNeed, cell}
+use Rattle.order.specs.Limits.{within, countNeed}
+use Rattle.taking.specs.Places.{cell}
 use Rattle.taking.specs.Taking.{isForeign}
 use Rattle.taking.specs.declared.Opened.{Opened}
 use Rattle.taking.specs.declared.Counted.{Counted}

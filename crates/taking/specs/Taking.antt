@@ -1,19 +1,29 @@
--- Taking a reference (document 01, "The stack and the counts"; its refusals 1 to 7, in that order).
--- The answer decides all that is handed back: where it is not 0, the state and both tables are as they were. Assumes nothing.
+-- Taking what is given (document 01, "The stack and the counts"; its refusals 1 to 7, in that order): each block size takes its events.
+-- Assumes nothing.
 use Prim.Native.Nat.{ℕ, _+_}
 use mathlib.Core.Path.{_≡_}
-use mathlib.Core.Bool.{Bool, cond, not, _&&_, _||_}
+use mathlib.Core.Bool.{Bool, not, _||_}
 use mathlib.Core.List.{List, [], _∷_}
-use lib.Dec.{eqb, ltb, leb}
+use lib.Dec.{eqb, ltb}
 use lib.ListN.{length}
-use Rattle.lists.specs.Members.{remove}
-use Rattle.lists.specs.Tables.{writtenRows, setLengths, raisedGroups, overGroups}
-use Rattle.lists.specs.Tests.{firstOf, anyTo}
+use Rattle.lists.specs.Runs.{after, anyOn}
+use Rattle.lists.specs.Tests.{firstOf, settled, anyTo}
 use Rattle.units.specs.Refusals.{outsideLimits, shortStacks, shortCounts, foreignState, refsReached, stackFull, countOver}
-use Rattle.order.specs.Limits.{within, sizes}
-use Rattle.taking.specs.Places.{rows, stackNeed, countNeed, usedOf, stackAt, blockAt, foundAt, depthAt}
+use Rattle.cache.specs.Cache.{Event, Given, eventsAt}
+use Rattle.order.specs.declared.Order.{Order}
+use Rattle.order.specs.Limits.{within, sizes, stackNeed, countNeed}
+use Rattle.sizes.specs.Size.{Size, sizeStep, isFull, isOver}
+use Rattle.taking.specs.Places.{usedOf}
+use Rattle.taking.specs.World.{World, sizeAt, withSizes}
 use Rattle.taking.specs.declared.Opened.{Opened}
-use Rattle.taking.specs.declared.Reply.{Reply}
+
+-- the events of what is given, at block size k
+abbrev pub eventsIn : World → Given → ℕ → List Event
+eventsIn w g k = eventsAt (w .state .order .bmin .0 + k) g
+
+-- each block size after its events
+abbrev pub taken : World → Given → World
+taken w g = withSizes w (λ (k : ℕ). after (sizeStep (w .state .order)) (sizeAt w k) (eventsIn w g k))
 
 -- ---- the refusals
 
@@ -21,53 +31,24 @@ use Rattle.taking.specs.declared.Reply.{Reply}
 abbrev pub isForeign : Opened → Bool
 isForeign v = anyTo (sizes (v .order)) (λ (k : ℕ). ltb (v .order .room) (usedOf v k)) || ltb (v .order .refs) (v .taken)
 
--- at block size k the block is new and its stack is full
-abbrev pub fullAt : Opened → List ℕ → ℕ → ℕ → Bool
-fullAt v st a k = not (foundAt v st a k) && leb (v .order .room) (usedOf v k)
-
--- a count to be raised is not below the references taken
-abbrev pub isOver : Opened → List ℕ → List ℕ → ℕ → Bool
-isOver v st ct a = overGroups (v .order .ways) (rows (v .order)) (foundAt v st a) (depthAt v st a) (v .taken) (sizes (v .order)) ct
+-- at some block size an event passes the test
+abbrev pub someSize : (Order → Size → Event → Bool) → World → Given → Bool
+someSize p w g = anyTo (sizes (w .state .order)) (λ (k : ℕ). anyOn (sizeStep (w .state .order)) (p (w .state .order)) (sizeAt w k) (eventsIn w g k))
 
 -- the first of 1 to 7 that applies, else 0
-abbrev pub takeAnswer : Opened → List ℕ → List ℕ → ℕ → ℕ
-takeAnswer v st ct a =
+abbrev pub takeAnswer : World → Given → ℕ
+takeAnswer w g =
     firstOf
-    ((not (within (v .order)), outsideLimits)
-    ∷ (ltb (length st) (stackNeed (v .order)), shortStacks)
-    ∷ (ltb (length ct) (countNeed (v .order)), shortCounts)
-    ∷ (isForeign v, foreignState)
-    ∷ (eqb (v .taken) (v .order .refs), refsReached)
-    ∷ (anyTo (sizes (v .order)) (fullAt v st a), stackFull)
-    ∷ (isOver v st ct a, countOver)
+    ((not (within (w .state .order)), outsideLimits)
+    ∷ (ltb (length (w .stacks)) (stackNeed (w .state .order)), shortStacks)
+    ∷ (ltb (length (w .counts)) (countNeed (w .state .order)), shortCounts)
+    ∷ (isForeign (w .state), foreignState)
+    ∷ (eqb (w .state .taken) (w .state .order .refs), refsReached)
+    ∷ (someSize isFull w g, stackFull)
+    ∷ (someSize isOver w g, countOver)
     ∷ [])
 
--- ---- what a taking that is done leaves
-
--- the block goes to the top: blocks that were above it move down one and the others stay; under a new block all move down one
-abbrev pub topped : Opened → List ℕ → ℕ → ℕ → List ℕ
-topped v st a k = blockAt v a k ∷ remove (blockAt v a k) (stackAt v st k)
-
--- each stack with its block on top, in its place
-abbrev pub stacksDone : Opened → List ℕ → ℕ → List ℕ
-stacksDone v st a = writtenRows (v .order .room) (topped v st a) (sizes (v .order)) st
-
--- at each block size where the block is found, for each s with depth below `ways`, the count for (b, s, depth) goes up by one
-abbrev pub countsDone : Opened → List ℕ → List ℕ → ℕ → List ℕ
-countsDone v st ct a = raisedGroups (v .order .ways) (rows (v .order)) (foundAt v st a) (depthAt v st a) (sizes (v .order)) ct
-
--- the references taken go up by one, and each used length is that of its stack
-abbrev pub stateDone : Opened → List ℕ → ℕ → Opened
-stateDone v st a = record { order = v .order; taken = v .taken + 1; used = setLengths (topped v st a) (sizes (v .order)) (v .used) }
-
--- ---- the contract
-
-abbrev pub isTaken : Opened → List ℕ → List ℕ → ℕ → Bool
-isTaken v st ct a = eqb (takeAnswer v st ct a) 0
-
--- of the state v and the tables st and ct, a taking of address a hands back r and leaves st′ and ct′
-pub record Takes (v : Opened) (st ct : List ℕ) (a : ℕ) (r : Reply) (st′ ct′ : List ℕ) : Type 0 where
-  pub answer : r .answer ≡ takeAnswer v st ct a
-  pub state : r .state ≡ cond (isTaken v st ct a) (stateDone v st a) v
-  pub stacks : st′ ≡ cond (isTaken v st ct a) (stacksDone v st a) st
-  pub counts : ct′ ≡ cond (isTaken v st ct a) (countsDone v st ct a) ct
+-- THE CONTRACT of `take_ref`: a call that is given g answers n and leads from w to w′
+pub record Takes (w : World) (g : Given) (n : ℕ) (w′ : World) : Type 0 where
+  pub answer : n ≡ takeAnswer w g
+  pub left : w′ ≡ settled (takeAnswer w g) (taken w g) w

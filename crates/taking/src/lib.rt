@@ -9,7 +9,6 @@ use counting::summed;
 use counting::tops_over;
 use moving::clear;
 use moving::is_full;
-use moving::is_on_top;
 use moving::move_all;
 use order::Order;
 use rating::rated;
@@ -18,13 +17,18 @@ use units::BlockNo;
 use units::ByteExp;
 use units::refusal;
 ghost use mathlib.Core.Path.{_≡_};
-ghost use Prim.Native.Nat.{_-_, _≤_};
-ghost use Rattle.order.specs.Limits.{zeroOrder};
-ghost use Rattle.taking.specs.Opening.{Opens, fresh};
+ghost use Prim.Native.Nat.{ℕ, _-_, _≤_, _<_};
+ghost use mathlib.Core.Bool.{true};
+ghost use mathlib.Core.List.{List};
+ghost use lib.ListN.{length, getD};
+ghost use Rattle.order.specs.Limits.{zeroOrder, stackNeed, countNeed};
+ghost use Rattle.cache.specs.Cache.{ref};
+ghost use Rattle.taking.specs.World.{world};
+ghost use Rattle.taking.specs.Opening.{Opens, fresh, unopened};
 ghost use Rattle.taking.specs.Taking.{Takes, isForeign};
 ghost use Rattle.taking.specs.Questions.{has as Questions·has, missesOf};
 ghost use Rattle.taking.specs.Ratios.{ratiosOf};
-ghost use Rattle.taking.specs.Parts.{earlyAnswer};
+ghost use Rattle.taking.specs.Parts.{earlyAnswer, Fit, OnTop, Looked};
 
 mod counting;
 mod moving;
@@ -64,7 +68,7 @@ pub struct Rated {
 impl Opened {
     // Opens an order over two tables: zeroes what it needs of them.
     pub fn open(order: Order, stacks: &mut [u32], counts: &mut [u32]) -> Reply
-        ensures { λ r. ⌜ Opens order (now (stacks .entry)) (now (counts .entry)) r (now (stacks .exit)) (now (counts .exit)) ⌝ }
+        ensures { λ r. ⌜ Opens order (unopened (now (stacks .entry)) (now (counts .entry))) (r .answer) (world (r .state) (now (stacks .exit)) (now (counts .exit))) ⌝ }
     {
         let none = Opened::none();
         let bmin = order.bmin.0;
@@ -117,20 +121,11 @@ impl Opened {
         }
     }
 
-    // Takes a reference. All block sizes are looked at before any count is raised or any block moved.
-    // Most references find their block on top of every stack: there each depth is 0 and nothing moves.
+    // Takes a reference. Most find their block on top of every stack: there each depth is 0 and nothing moves.
     pub fn take_ref(self, stacks: &mut [u32], counts: &mut [u32], a: Addr) -> Reply
-        ensures { λ r. ⌜ Takes self (now (stacks .entry)) (now (counts .entry)) (a .0) r (now (stacks .exit)) (now (counts .exit)) ⌝ }
+        ensures { λ r. ⌜ Takes (world self (now (stacks .entry)) (now (counts .entry))) (ref (a .0)) (r .answer) (world (r .state) (now (stacks .exit)) (now (counts .exit))) ⌝ }
     {
         let addr = a.0;
-        let order = self.order;
-        let bmin = order.bmin.0;
-        let bmax = order.bmax.0;
-        let smax = order.smax;
-        let ways = order.ways as usize;
-        let room = order.room as usize;
-        let taken = self.taken;
-        let mut used = self.used;
         let early = self.early(stacks.len(), counts.len());
         if early != 0 {
             return Reply {
@@ -138,48 +133,56 @@ impl Opened {
                 answer: early,
             };
         }
-        let sizes = (bmax - bmin + 1) as usize;
-        let rows = (smax + 1) as usize;
-        if is_on_top(stacks, &used, sizes, room, bmin, addr) {
-            if tops_over(counts, ways, sizes * rows, taken) {
-                return Reply {
-                    state: self,
-                    answer: refusal::COUNT_OVER,
-                };
-            }
-            raise_tops(counts, ways, sizes * rows);
+        if self.is_on_top(stacks, addr) {
+            return self.take_top(counts);
+        }
+        self.take_deep(stacks, counts, addr)
+    }
+
+    // The quick way, where the block is on top of every stack, whatever else these hold.
+    fn take_top(self, counts: &mut [u32]) -> Reply
+        requires { ⌜ Fit self (stackNeed (self .order)) (length (now counts)) × (self .taken < self .order .refs) ⌝ }
+        ensures { λ r. ⌜ ((st : List ℕ) (a : ℕ) → Fit self (length st) (length (now (counts .entry))) → OnTop self st a → Takes (world self st (now (counts .entry))) (ref a) (r .answer) (world (r .state) st (now (counts .exit)))) ⌝ }
+    {
+        let order = self.order;
+        let used = self.used;
+        let sizes = (order.bmax.0 - order.bmin.0 + 1) as usize;
+        let rows = (order.smax + 1) as usize;
+        let ways = order.ways as usize;
+        let taken = self.taken;
+        if tops_over(counts, ways, sizes * rows, taken) {
             return Reply {
-                state: Opened {
-                    order,
-                    taken: taken + 1,
-                    used,
-                },
-                answer: refusal::DONE,
+                state: self,
+                answer: refusal::COUNT_OVER,
             };
         }
+        raise_tops(counts, ways, sizes * rows);
+        Reply {
+            state: Opened {
+                order,
+                taken: taken + 1,
+                used,
+            },
+            answer: refusal::DONE,
+        }
+    }
+
+    // Any other way. All block sizes are looked at before any count is raised or any block moved.
+    fn take_deep(self, stacks: &mut [u32], counts: &mut [u32], a: u32) -> Reply
+        requires { ⌜ Fit self (length (now stacks)) (length (now counts)) × (self .taken < self .order .refs) ⌝ }
+        ensures { λ r. ⌜ Takes (world self (now (stacks .entry)) (now (counts .entry))) (ref a) (r .answer) (world (r .state) (now (stacks .exit)) (now (counts .exit))) ⌝ }
+    {
+        let order = self.order;
+        let bmin = order.bmin.0;
+        let sizes = (order.bmax.0 - bmin + 1) as usize;
+        let rows = (order.smax + 1) as usize;
+        let ways = order.ways as usize;
+        let room = order.room as usize;
+        let taken = self.taken;
+        let mut used = self.used;
         let mut places = [0u32; 8];
         let mut depths = [0u32; 120];
-        let mut k = 0usize;
-        while k < sizes {
-            let x = BlockNo(addr >> (bmin + k as u32));
-            let base = k * room;
-            let len = used[k] as usize;
-            let mut i = 0usize;
-            let place = loop {
-                if i >= len {
-                    break i;
-                }
-                let y = BlockNo(stacks[base + i]);
-                if y.0 == x.0 {
-                    break i;
-                }
-                let shared = u32::trailing_zeros(x.0 ^ y.0);
-                bump(&mut depths, k * 15, rows, shared as usize);
-                i += 1;
-            };
-            places[k] = place as u32;
-            k += 1;
-        }
+        self.look(stacks, a, &mut places, &mut depths);
         if is_full(&places, sizes, order.room) {
             return Reply {
                 state: self,
@@ -193,7 +196,7 @@ impl Opened {
             };
         }
         raise_all(counts, &used, &places, &depths, sizes, rows, ways);
-        move_all(stacks, &mut used, &places, sizes, room, bmin, addr);
+        move_all(stacks, &mut used, &places, sizes, room, bmin, a);
         Reply {
             state: Opened {
                 order,
@@ -202,6 +205,62 @@ impl Opened {
             },
             answer: refusal::DONE,
         }
+    }
+
+    // At each block size walks the stack to the block of address a, or to its end: where the walk left, and the depths.
+    fn look(self, stacks: &[u32], a: u32, places: &mut [u32], depths: &mut [u32])
+        requires { ⌜ Fit self (length (now stacks)) (countNeed (self .order)) × (length (now places) ≡ 8) × (length (now depths) ≡ 120) ⌝ }
+        requires { ⌜ ((i : ℕ) → getD (now depths) i 0 ≡ 0) ⌝ }
+        ensures { λ _. ⌜ Looked self (now (stacks .entry)) a (now (places .exit)) (now (depths .exit)) ⌝ }
+    {
+        let order = self.order;
+        let bmin = order.bmin.0;
+        let sizes = (order.bmax.0 - bmin + 1) as usize;
+        let rows = (order.smax + 1) as usize;
+        let room = order.room as usize;
+        let mut k = 0usize;
+        while k < sizes {
+            let x = BlockNo(a >> (bmin + k as u32));
+            let base = k * room;
+            let len = self.used[k] as usize;
+            let mut i = 0usize;
+            let place = loop {
+                if i >= len {
+                    break i;
+                }
+                let y = BlockNo(stacks[base + i]);
+                if y.0 == x.0 {
+                    break i;
+                }
+                let shared = u32::trailing_zeros(x.0 ^ y.0);
+                bump(depths, k * 15, rows, shared as usize);
+                i += 1;
+            };
+            places[k] = place as u32;
+            k += 1;
+        }
+    }
+
+    // The block of address a is on top of the stack of every block size.
+    fn is_on_top(self, stacks: &[u32], a: u32) -> bool
+        requires { ⌜ Fit self (length (now stacks)) (countNeed (self .order)) ⌝ }
+        ensures { λ r. ⌜ (r ≡ true → OnTop self (now (stacks .entry)) a) ⌝ }
+    {
+        let order = self.order;
+        let bmin = order.bmin.0;
+        let sizes = (order.bmax.0 - bmin + 1) as usize;
+        let room = order.room as usize;
+        let mut k = 0usize;
+        while k < sizes {
+            if self.used[k] == 0 {
+                return false;
+            }
+            if stacks[k * room] != a >> (bmin + k as u32) {
+                return false;
+            }
+            k += 1;
+        }
+        true
     }
 
     // The misses of the cache (b, s, w): the references taken less the counts at depths 0 to w - 1.

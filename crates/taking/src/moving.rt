@@ -1,14 +1,13 @@
 // The stacks: a block goes to the top of each.
 ghost use mathlib.Core.Path.{_≡_};
 ghost use Prim.Native.Nat.{ℕ, _+_, _*_, _≤_, _<_};
-ghost use mathlib.Core.Bool.{true};
 ghost use mathlib.Core.List.{_∷_};
 ghost use lib.Dec.{leb};
 ghost use lib.ListN.{length, getD};
 ghost use Rattle.lists.specs.Members.{remove, above};
 ghost use Rattle.lists.specs.Tables.{part, writeAt, writtenRows, setLengths, zeroed};
 ghost use Rattle.lists.specs.Tests.{anyTo};
-ghost use Rattle.taking.specs.Parts.{OnTop, Roomed, front, toppedBy};
+ghost use Rattle.taking.specs.Parts.{Roomed, front, toppedBy};
 
 // Zeroes the first n entries.
 pub(crate) fn clear(table: &mut [u32], n: usize)
@@ -20,31 +19,6 @@ pub(crate) fn clear(table: &mut [u32], n: usize)
         table[i] = 0;
         i += 1;
     }
-}
-
-// At each of the first `sizes` block sizes the block of address a is on top of its stack.
-pub(crate) fn is_on_top(
-    stacks: &[u32],
-    used: &[u32],
-    sizes: usize,
-    room: usize,
-    bmin: u32,
-    a: u32,
-) -> bool
-    requires { ⌜ (sizes ≤ 8) × (length (now used) ≡ 8) × (sizes * room ≤ length (now stacks)) × (1 ≤ room) × (bmin ≤ 12) ⌝ }
-    ensures { λ r. ⌜ (r ≡ true → OnTop sizes room bmin (now (stacks .entry)) (now (used .entry)) a) ⌝ }
-{
-    let mut k = 0usize;
-    while k < sizes {
-        if used[k] == 0 {
-            return false;
-        }
-        if stacks[k * room] != a >> (bmin + k as u32) {
-            return false;
-        }
-        k += 1;
-    }
-    true
 }
 
 // Some walk left at or past room: its block is new and its stack is full.

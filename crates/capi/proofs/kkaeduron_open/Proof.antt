@@ -1,8 +1,10 @@
 -- `kkaeduron_open` meets its contract: the reply of the library's opening, its state as numbers. Assumes nothing.
 use lib.ListN.{length}
 use borrow.Author.Tests.{ne-eqb}
+use Rattle.taking.specs.Opening.{unopened}
 use Rattle.taking.proofs.OpeningLaws.{opens-checked}
 use Rattle.capi.proofs.BoundaryLaws.{open-other, open-called}
+use Rattle.capi.specs.Boundary.{lent}
 use borrow.Author.Needs.{needs}
 use Rattle.capi.proofs.kkaeduron_open.Statement.{statement}
 use Rattle.capi.proofs.kkaeduron_open.Tie as tie
@@ -10,7 +12,7 @@ use Rattle.capi.proofs.kkaeduron_open.Tie as tie
 returns : tie.Need-returns
 returns c =
     let a = c .before .before .before .before .args in
-    open-other _ (a .state .now) (a .stacks .now) (a .counts .now) (ne-eqb (length (a .state .now)) 15 (c .if1 .taken))
+    open-other _ (lent (a .state .now) (a .stacks .now) (a .counts .now)) (ne-eqb (length (a .state .now)) 15 (c .if1 .taken))
 
 new-requires : tie.Need-new-requires
 new-requires c κs = search needs
@@ -34,8 +36,8 @@ returns-2 : tie.Need-returns-2
 returns-2 c =
     let at-open = c .before .before .before .before .before .before .before .before .before in
     let a = c .before .before .before .before .before .before .before .before .before .before .before .before .before .before .before .before .before .args in
-    let opens = opens-checked _ _ (a .stacks .now) (a .counts .now) _ _ _ (at-open .before .before .before .new .ensures) (at-open .«open» .ensures) in
-    open-called _ (a .state .now) (a .stacks .now) (a .counts .now) (search needs) opens (c .before .before .put-state .ensures)
+    let opens = opens-checked _ _ (unopened (a .stacks .now) (a .counts .now)) _ _ (at-open .before .before .before .new .ensures) (at-open .«open» .ensures) in
+    open-called _ (lent (a .state .now) (a .stacks .now) (a .counts .now)) (search needs) opens (c .before .before .put-state .ensures)
 
 pub kkaeduron-open-spec : {M : Type 1} → statement M
 kkaeduron-open-spec =

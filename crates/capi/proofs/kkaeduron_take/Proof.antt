@@ -2,6 +2,8 @@
 use lib.ListN.{length}
 use borrow.Author.Tests.{ne-eqb}
 use Rattle.capi.proofs.BoundaryLaws.{take-other, take-called}
+use Rattle.cache.specs.Cache.{ref}
+use Rattle.capi.specs.Boundary.{lent}
 use borrow.Author.Needs.{needs}
 use Rattle.capi.proofs.kkaeduron_take.Statement.{statement}
 use Rattle.capi.proofs.kkaeduron_take.Tie as tie
@@ -9,7 +11,7 @@ use Rattle.capi.proofs.kkaeduron_take.Tie as tie
 returns : tie.Need-returns
 returns c =
     let a = c .before .before .before .before .args in
-    take-other (a .state .now) (a .stacks .now) (a .counts .now) (a .addr) (ne-eqb (length (a .state .now)) 15 (c .if1 .taken))
+    take-other (lent (a .state .now) (a .stacks .now) (a .counts .now)) (ref (a .addr)) (ne-eqb (length (a .state .now)) 15 (c .if1 .taken))
 
 state-from-requires : tie.Need-state-from-requires
 state-from-requires c κs = search needs
@@ -34,7 +36,7 @@ returns-2 c =
     let at-take = c .before .before .before .before .before .before .before .before .before in
     let at-read = at-take .before .before .before in
     let a = c .before .before .before .before .before .before .before .before .before .before .before .before .before .before .before .before .before .before .args in
-    take-called (a .state .now) (a .stacks .now) (a .counts .now) (a .addr) (at-read .before .before .if1 .left) (rw (at-read .state-from .ensures) at (at-take .take-ref .ensures)) (c .before .before .put-state .ensures)
+    take-called (lent (a .state .now) (a .stacks .now) (a .counts .now)) (ref (a .addr)) (at-read .before .before .if1 .left) (rw (at-read .state-from .ensures) at (at-take .take-ref .ensures)) (c .before .before .put-state .ensures)
 
 pub kkaeduron-take-spec : {M : Type 1} → statement M
 kkaeduron-take-spec =

@@ -3,7 +3,9 @@ use mathlib.Core.Path.{_≡_, refl, sym, ap, _∙_}
 use native.Mathlib.Omega.{arith}
 use borrow.Author.Tests.{eq-eqb, ne-eqb}
 use Rattle.taking.proofs.OpeningLaws.{opens-checked}
-use Rattle.reading.specs.Reading.{orderOf}
+use Rattle.reading.specs.Reading.{desk, orderOf}
+use Rattle.taking.specs.World.{world}
+use Rattle.taking.specs.Opening.{unopened}
 use Rattle.reading.proofs.StepLaws.{opened-outcome, unopened-outcome, begin-stands}
 use borrow.Author.Needs.{needs}
 use Rattle.reading.proofs.Reading.begin.Statement.{statement}
@@ -57,8 +59,8 @@ returns-3 : tie.Need-returns-3
 returns-3 c =
     let a = c .before .before .before .before .before .before .before .before .before .before .before .before .before .before .before .args in
     let call = c .before .before .before .before .before .before .«open» in
-    let opens = opens-checked (orderOf (a .self)) _ (a .stacks .now) (a .counts .now) _ _ _ (c .before .before .before .before .before .before .before .before .before .new .ensures) (call .ensures) in
-    opened-outcome (a .self) (a .stacks .now) (a .counts .now) (call .result) (call .last .1 .0) (call .last .1 .1 .0) opens (c .if3 .taken) ∙ begin-stands (a .self) (a .stacks .now) (a .counts .now) (c .before .before .before .before .before .before .before .before .before .before .before .before .if1 .left) (c .before .before .before .before .before .before .before .before .before .before .before .if2 .left)
+    let opens = opens-checked (orderOf (a .self)) _ (unopened (a .stacks .now) (a .counts .now)) _ (world (call .result .state) (call .last .1 .0) (call .last .1 .1 .0)) (c .before .before .before .before .before .before .before .before .before .new .ensures) (call .ensures) in
+    opened-outcome (desk (a .self) (a .stacks .now) (a .counts .now)) (call .result .answer) (world (call .result .state) (call .last .1 .0) (call .last .1 .1 .0)) opens (c .if3 .taken) ∙ begin-stands (desk (a .self) (a .stacks .now) (a .counts .now)) (c .before .before .before .before .before .before .before .before .before .before .before .before .if1 .left) (c .before .before .before .before .before .before .before .before .before .before .before .if2 .left)
 
 same-length-3 : tie.Need-same-length-3
 same-length-3 c = search needs
@@ -70,8 +72,8 @@ returns-4 : tie.Need-returns-4
 returns-4 c =
     let a = c .before .before .before .before .before .before .before .before .before .before .before .before .before .before .before .args in
     let call = c .before .before .before .before .before .before .«open» in
-    let opens = opens-checked (orderOf (a .self)) _ (a .stacks .now) (a .counts .now) _ _ _ (c .before .before .before .before .before .before .before .before .before .new .ensures) (call .ensures) in
-    unopened-outcome (a .self) (a .stacks .now) (a .counts .now) (call .result) (call .last .1 .0) (call .last .1 .1 .0) opens (c .if3 .left) ∙ begin-stands (a .self) (a .stacks .now) (a .counts .now) (c .before .before .before .before .before .before .before .before .before .before .before .before .if1 .left) (c .before .before .before .before .before .before .before .before .before .before .before .if2 .left)
+    let opens = opens-checked (orderOf (a .self)) _ (unopened (a .stacks .now) (a .counts .now)) _ (world (call .result .state) (call .last .1 .0) (call .last .1 .1 .0)) (c .before .before .before .before .before .before .before .before .before .new .ensures) (call .ensures) in
+    unopened-outcome (desk (a .self) (a .stacks .now) (a .counts .now)) (call .result .answer) (world (call .result .state) (call .last .1 .0) (call .last .1 .1 .0)) opens (c .if3 .left) ∙ begin-stands (desk (a .self) (a .stacks .now) (a .counts .now)) (c .before .before .before .before .before .before .before .before .before .before .before .before .if1 .left) (c .before .before .before .before .before .before .before .before .before .before .before .if2 .left)
 
 pub begin-spec : {M : Type 1} → statement M
 begin-spec =

@@ -3,7 +3,7 @@ use mathlib.Core.Path.{_≡_, refl, sym, ap, _∙_}
 use native.Mathlib.Omega.{arith}
 use Rattle.lines.specs.OrderLine.{orderLineOf}
 use Rattle.reading.specs.declared.Step.{Step}
-use Rattle.reading.specs.Reading.{orderStep, stays}
+use Rattle.reading.specs.Reading.{desk, orderStep, stays}
 use borrow.Author.Needs.{needs}
 use Rattle.reading.proofs.Reading.order_step.Statement.{statement}
 use Rattle.reading.proofs.Reading.order_step.Tie as tie
@@ -66,43 +66,43 @@ returns : tie.Need-returns
 returns c =
     let a = c .before .before .before .before .before .before .before .before .args in
     let read = sym (c .before .before .before .before .order-line .ensures) ∙ c .before .before .read .given .1 in
-    ap (λ (s : Step). stays s (a .stacks .now) (a .counts .now)) (c .number .ensures) ∙ sym (ap (λ x. orderStep (a .self) x (a .stacks .now) (a .counts .now)) read)
+    ap (λ (s : Step). stays s (desk (s .next) (a .stacks .now) (a .counts .now))) (c .number .ensures) ∙ sym (ap (λ x. orderStep (desk (a .self) (a .stacks .now) (a .counts .now)) x) read)
 
 returns-2 : tie.Need-returns-2
 returns-2 c =
     let a = c .before .before .before .before .before .before .before .before .args in
     let read = sym (c .before .before .before .before .order-line .ensures) ∙ c .before .before .read2 .given .1 in
-    ap (λ (s : Step). stays s (a .stacks .now) (a .counts .now)) (c .number2 .ensures) ∙ sym (ap (λ x. orderStep (a .self) x (a .stacks .now) (a .counts .now)) read)
+    ap (λ (s : Step). stays s (desk (s .next) (a .stacks .now) (a .counts .now))) (c .number2 .ensures) ∙ sym (ap (λ x. orderStep (desk (a .self) (a .stacks .now) (a .counts .now)) x) read)
 
 returns-3 : tie.Need-returns-3
 returns-3 c =
     let a = c .before .before .before .before .before .before .before .before .args in
     let read = sym (c .before .before .before .before .order-line .ensures) ∙ c .before .before .read3 .given .1 in
-    ap (λ (s : Step). stays s (a .stacks .now) (a .counts .now)) (c .number3 .ensures) ∙ sym (ap (λ x. orderStep (a .self) x (a .stacks .now) (a .counts .now)) read)
+    ap (λ (s : Step). stays s (desk (s .next) (a .stacks .now) (a .counts .now))) (c .number3 .ensures) ∙ sym (ap (λ x. orderStep (desk (a .self) (a .stacks .now) (a .counts .now)) x) read)
 
 returns-4 : tie.Need-returns-4
 returns-4 c =
     let a = c .before .before .before .before .before .before .before .before .args in
     let read = sym (c .before .before .before .before .order-line .ensures) ∙ c .before .before .read4 .given .1 in
-    ap (λ (s : Step). stays s (a .stacks .now) (a .counts .now)) (c .number4 .ensures) ∙ sym (ap (λ x. orderStep (a .self) x (a .stacks .now) (a .counts .now)) read)
+    ap (λ (s : Step). stays s (desk (s .next) (a .stacks .now) (a .counts .now))) (c .number4 .ensures) ∙ sym (ap (λ x. orderStep (desk (a .self) (a .stacks .now) (a .counts .now)) x) read)
 
 returns-5 : tie.Need-returns-5
 returns-5 c =
     let a = c .before .before .before .before .before .before .before .before .args in
     let read = sym (c .before .before .before .before .order-line .ensures) ∙ c .before .before .read5 .given .1 in
-    ap (λ (s : Step). stays s (a .stacks .now) (a .counts .now)) (c .number5 .ensures) ∙ sym (ap (λ x. orderStep (a .self) x (a .stacks .now) (a .counts .now)) read)
+    ap (λ (s : Step). stays s (desk (s .next) (a .stacks .now) (a .counts .now))) (c .number5 .ensures) ∙ sym (ap (λ x. orderStep (desk (a .self) (a .stacks .now) (a .counts .now)) x) read)
 
 returns-6 : tie.Need-returns-6
 returns-6 c =
     let a = c .before .before .before .before .before .before .before .before .args in
     let read = sym (c .before .before .before .before .order-line .ensures) ∙ c .before .before .read6 .given .1 in
-    ap (λ (s : Step). stays s (a .stacks .now) (a .counts .now)) (c .number6 .ensures) ∙ sym (ap (λ x. orderStep (a .self) x (a .stacks .now) (a .counts .now)) read)
+    ap (λ (s : Step). stays s (desk (s .next) (a .stacks .now) (a .counts .now))) (c .number6 .ensures) ∙ sym (ap (λ x. orderStep (desk (a .self) (a .stacks .now) (a .counts .now)) x) read)
 
 returns-7 : tie.Need-returns-7
 returns-7 c =
     let a = c .before .before .before .before .before .before .before .before .args in
     let read = sym (c .before .before .before .before .order-line .ensures) ∙ c .before .before .read7 .given .1 in
-    ap (λ (s : Step). stays s (a .stacks .now) (a .counts .now)) (c .counting .ensures) ∙ sym (ap (λ x. orderStep (a .self) x (a .stacks .now) (a .counts .now)) read)
+    ap (λ (s : Step). stays s (desk (s .next) (a .stacks .now) (a .counts .now))) (c .counting .ensures) ∙ sym (ap (λ x. orderStep (desk (a .self) (a .stacks .now) (a .counts .now)) x) read)
 
 same-length : tie.Need-same-length
 same-length c = search needs
@@ -114,13 +114,13 @@ returns-8 : tie.Need-returns-8
 returns-8 c =
     let a = c .before .before .before .before .before .before .before .before .before .before .before .before .before .args in
     let read = sym (c .before .before .before .before .before .before .before .before .before .order-line .ensures) ∙ c .before .before .before .before .before .before .before .enum-told .given .1 in
-    c .before .before .before .before .begin .ensures ∙ sym (ap (λ x. orderStep (a .self) x (a .stacks .now) (a .counts .now)) read)
+    c .before .before .before .before .begin .ensures ∙ sym (ap (λ x. orderStep (desk (a .self) (a .stacks .now) (a .counts .now)) x) read)
 
 returns-9 : tie.Need-returns-9
 returns-9 c =
     let a = c .before .before .before .before .before .before .before .args in
     let read = sym (c .before .before .before .order-line .ensures) ∙ c .before .read8 .given .1 in
-    sym (ap (λ x. orderStep (a .self) x (a .stacks .now) (a .counts .now)) read)
+    sym (ap (λ x. orderStep (desk (a .self) (a .stacks .now) (a .counts .now)) x) read)
 
 pub order-step-spec : {M : Type 1} → statement M
 order-step-spec =

@@ -7,7 +7,7 @@ use Rattle.units.specs.Refusals.{tooManyLines}
 use Rattle.lines.specs.TraceLine.{traceLineOf}
 use Rattle.lines.specs.OrderLine.{orderLineOf}
 use Rattle.reading.specs.declared.Reading.{Reading}
-use Rattle.reading.specs.Reading.{answered, stays, traceStep, orderStep}
+use Rattle.reading.specs.Reading.{desk, answered, stays, traceStep, orderStep}
 use Rattle.reading.proofs.CountLaws.{one-too-many, one-more}
 use Rattle.reading.proofs.Reading.step.Statement.{statement}
 use Rattle.reading.proofs.Reading.step.Tie as tie
@@ -19,7 +19,7 @@ returns : tie.Need-returns
 returns c =
     let a = c .before .before .before .before .before .args in
     let f = one-too-many (a .self) _ (c .before .counted .ensures) (c .if1 .taken) in
-    simp (f .0) (ap (λ (r : Reading). stays (answered tooManyLines r) (a .stacks .now) (a .counts .now)) (f .1))
+    simp (f .0) (ap (λ (r : Reading). stays (answered tooManyLines r) (desk r (a .stacks .now) (a .counts .now))) (f .1))
 
 trace-step-requires : tie.Need-trace-step-requires
 trace-step-requires c κs = search needs
@@ -39,7 +39,7 @@ returns-2 c =
     let f = one-more (a .self) _ (c .before .before .before .before .before .before .before .before .before .counted .ensures) (c .before .before .before .before .before .before .before .before .if1 .left) in
     let stage = sym (ap (λ (r : Reading). r .stage) (f .1)) ∙ c .before .before .before .before .before .before .before .if2 .taken in
     simp (f .0, eq-eqb (a .self .stage) 8 stage)
-    (c .before .before .before .before .trace-step .ensures ∙ ap (λ (r : Reading). traceStep r (traceLineOf (a .line .now)) (a .stacks .now) (a .counts .now)) (f .1))
+    (c .before .before .before .before .trace-step .ensures ∙ ap (λ (r : Reading). traceStep (desk r (a .stacks .now) (a .counts .now)) (traceLineOf (a .line .now))) (f .1))
 
 same-length-3 : tie.Need-same-length-3
 same-length-3 c = search needs
@@ -53,7 +53,7 @@ returns-3 c =
     let f = one-more (a .self) _ (c .before .before .before .before .before .before .before .before .before .counted .ensures) (c .before .before .before .before .before .before .before .before .if1 .left) in
     let stage : a .self .stage ≡ 8 → ⊥ = λ e. c .before .before .before .before .before .before .before .if2 .left (ap (λ (r : Reading). r .stage) (f .1) ∙ e) in
     simp (f .0, ne-eqb (a .self .stage) 8 stage)
-    (c .before .before .before .before .order-step .ensures ∙ ap (λ (r : Reading). orderStep r (orderLineOf (a .line .now)) (a .stacks .now) (a .counts .now)) (f .1))
+    (c .before .before .before .before .order-step .ensures ∙ ap (λ (r : Reading). orderStep (desk r (a .stacks .now) (a .counts .now)) (orderLineOf (a .line .now))) (f .1))
 
 pub step-spec : {M : Type 1} → statement M
 step-spec =

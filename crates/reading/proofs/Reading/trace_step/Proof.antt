@@ -3,7 +3,7 @@ use mathlib.Core.Path.{_≡_, refl, sym, ap, _∙_}
 use native.Mathlib.Omega.{arith}
 use Rattle.lines.specs.TraceLine.{traceLineOf}
 use Rattle.reading.specs.declared.Step.{Step}
-use Rattle.reading.specs.Reading.{traceStep, takes, stays}
+use Rattle.reading.specs.Reading.{desk, traceStep, takes, stays}
 use Rattle.reading.proofs.StepLaws.{counted-step, passed-step}
 use borrow.Author.Needs.{needs}
 use Rattle.reading.proofs.Reading.trace_step.Statement.{statement}
@@ -44,26 +44,26 @@ returns c =
     let a = c .before .before .before .before .before .before .before .before .before .before .before .before .before .before .before .before .args in
     let read = sym (c .before .before .before .before .before .before .before .before .before .before .before .before .trace-line .ensures) ∙ c .before .before .before .before .before .before .before .before .before .before .read .given .1 in
     let counts = sym (c .before .before .before .before .before .before .before .before .counts .ensures) ∙ c .before .before .before .before .before .before .before .if1 .taken in
-    c .before .before .before .before .taken .ensures ∙ sym (ap (λ x. traceStep (a .self) x (a .stacks .now) (a .counts .now)) read ∙ counted-step (a .self) (c .before .before .before .before .before .before .before .before .before .before .read .given .0 .0) (c .before .before .before .before .before .before .before .before .before .before .read .given .0 .1 .0) (a .stacks .now) (a .counts .now) counts)
+    c .before .before .before .before .taken .ensures ∙ sym (ap (λ x. traceStep (desk (a .self) (a .stacks .now) (a .counts .now)) x) read ∙ counted-step (desk (a .self) (a .stacks .now) (a .counts .now)) (c .before .before .before .before .before .before .before .before .before .before .read .given .0 .0) (c .before .before .before .before .before .before .before .before .before .before .read .given .0 .1 .0) counts)
 
 returns-2 : tie.Need-returns-2
 returns-2 c =
     let a = c .before .before .before .before .before .before .before .before .before .before .args in
     let read = sym (c .before .before .before .before .before .before .trace-line .ensures) ∙ c .before .before .before .before .read .given .1 in
     let passes = sym (c .before .before .counts .ensures) ∙ c .before .if1 .left in
-    ap (λ (s : Step). stays s (a .stacks .now) (a .counts .now)) (c .passed .ensures) ∙ sym (ap (λ x. traceStep (a .self) x (a .stacks .now) (a .counts .now)) read ∙ passed-step (a .self) (c .before .before .before .before .read .given .0 .0) (c .before .before .before .before .read .given .0 .1 .0) (a .stacks .now) (a .counts .now) passes)
+    ap (λ (s : Step). stays s (desk (s .next) (a .stacks .now) (a .counts .now))) (c .passed .ensures) ∙ sym (ap (λ x. traceStep (desk (a .self) (a .stacks .now) (a .counts .now)) x) read ∙ passed-step (desk (a .self) (a .stacks .now) (a .counts .now)) (c .before .before .before .before .read .given .0 .0) (c .before .before .before .before .read .given .0 .1 .0) passes)
 
 returns-3 : tie.Need-returns-3
 returns-3 c =
     let a = c .before .before .before .before .before .before .before .args in
     let read = sym (c .before .before .before .trace-line .ensures) ∙ c .before .enum-told .given .1 in
-    ap (λ (s : Step). stays s (a .stacks .now) (a .counts .now)) (c .passed2 .ensures) ∙ sym (ap (λ x. traceStep (a .self) x (a .stacks .now) (a .counts .now)) read)
+    ap (λ (s : Step). stays s (desk (s .next) (a .stacks .now) (a .counts .now))) (c .passed2 .ensures) ∙ sym (ap (λ x. traceStep (desk (a .self) (a .stacks .now) (a .counts .now)) x) read)
 
 returns-4 : tie.Need-returns-4
 returns-4 c =
     let a = c .before .before .before .before .before .before .before .args in
     let read = sym (c .before .before .before .trace-line .ensures) ∙ c .before .read2 .given .1 in
-    sym (ap (λ x. traceStep (a .self) x (a .stacks .now) (a .counts .now)) read)
+    sym (ap (λ x. traceStep (desk (a .self) (a .stacks .now) (a .counts .now)) x) read)
 
 pub trace-step-spec : {M : Type 1} → statement M
 trace-step-spec =

@@ -5,7 +5,7 @@ use native.Mathlib.Omega.{arith}
 use lib.ListN.{length}
 use borrow.Author.Tests.{lt-ltb, le-ltb, eq-eqb, ne-eqb, not-true, not-false}
 use Rattle.taking.proofs.NeedLaws.{within-yes, within-no, within-test, needs-small}
-use Rattle.taking.specs.Places.{stackNeed, countNeed}
+use Rattle.order.specs.Limits.{stackNeed, countNeed}
 use borrow.Author.Needs.{needs}
 use Rattle.taking.proofs.Opened.early.Statement.{statement}
 use Rattle.taking.proofs.Opened.early.Tie as tie

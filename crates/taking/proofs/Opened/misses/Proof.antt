@@ -5,12 +5,10 @@ use native.Mathlib.Omega.{arith}
 use lib.ListN.{length}
 use borrow.Author.Tests.{lt-ltb, le-ltb, eq-eqb, ne-eqb, not-true, not-false}
 use Rattle.taking.proofs.NeedLaws.{within-yes, within-no, within-test, needs-small}
-use Rattle.taking.specs.Places.{stackNeed, countNeed}
 use Rattle.lists.proofs.PartLaws.{rows-le, row-in}
 use Rattle.lists.proofs.RaiseLaws.{cell-end}
 use Rattle.lists.proofs.TestLaws.{all-facts}
-use Rattle.order.specs.Limits.{sizes}
-use Rattle.taking.specs.Places.{rows}
+use Rattle.order.specs.Limits.{sizes, stackNeed, countNeed, rows}
 use Rattle.taking.specs.Questions.{asked, hitsOf}
 use borrow.Author.Needs.{needs}
 use Rattle.taking.proofs.Opened.misses.Statement.{statement}

@@ -1,12 +1,16 @@
 -- `open` meets its contract: each `return` has the tests that led to it. Assumes nothing.
 use Prim.Native.Nat.{ℕ, _≤_, _<_, _-_, _+_, _*_}
-use mathlib.Core.Path.{_≡_, refl, sym, ap, _∙_}
+use mathlib.Core.Path.{_≡_, refl, sym, ap, ap₂, _∙_}
+use mathlib.Core.List.{List}
 use native.Mathlib.Omega.{arith}
 use lib.ListN.{length}
 use borrow.Author.Tests.{lt-ltb, le-ltb, eq-eqb, ne-eqb, not-true, not-false}
 use Rattle.taking.proofs.NeedLaws.{within-yes, within-no, within-test, needs-small}
-use Rattle.taking.specs.Places.{stackNeed, countNeed}
+use Rattle.order.specs.Limits.{stackNeed, countNeed}
 use Rattle.lists.specs.Tables.{zeroed}
+use Rattle.taking.specs.World.{world}
+use Rattle.taking.specs.Opening.{fresh}
+use Rattle.taking.specs.declared.Opened.{Opened}
 use borrow.Author.Needs.{needs}
 use Rattle.taking.proofs.Opened.open.Statement.{statement}
 use Rattle.taking.proofs.Opened.open.Tie as tie
@@ -27,7 +31,7 @@ returns : tie.Need-returns
 returns c =
     let a = c .before .before .before .before .before .before .before .args in
     let out = within-no (a .order) _ (c .before .is-within .ensures) (c .if1 .taken) in
-    record { answer = simp (out); state = simp (out) (c .before .before .before .before .none .ensures); stacks = simp (out); counts = simp (out) }
+    record { answer = simp (out); left = simp (out) (ap (λ (x : Opened). world x (a .stacks .now) (a .counts .now)) (c .before .before .before .before .none .ensures)) }
 
 sub-sizes : tie.Need-sub-sizes
 sub-sizes c =
@@ -76,7 +80,7 @@ returns-2 c =
     let a = c .before .before .before .before .before .before .before .before .args in
     let fits = within-test (a .order) _ (c .before .before .is-within .ensures) (c .before .if1 .left) in
     let short = lt-ltb (length (a .stacks .now)) (stackNeed (a .order)) (c .if2 .taken) in
-    record { answer = simp (fits, short); state = simp (fits, short) (c .before .before .before .before .before .none .ensures); stacks = simp (fits, short); counts = simp (fits, short) }
+    record { answer = simp (fits, short); left = simp (fits, short) (ap (λ (x : Opened). world x (a .stacks .now) (a .counts .now)) (c .before .before .before .before .before .none .ensures)) }
 
 returns-3 : tie.Need-returns-3
 returns-3 c =
@@ -84,7 +88,7 @@ returns-3 c =
     let fits = within-test (a .order) _ (c .before .before .before .is-within .ensures) (c .before .before .if1 .left) in
     let long = le-ltb (length (a .stacks .now)) (stackNeed (a .order)) (c .before .if2 .left) in
     let short = lt-ltb (length (a .counts .now)) (countNeed (a .order)) (c .if3 .taken) in
-    record { answer = simp (fits, long, short); state = simp (fits, long, short) (c .before .before .before .before .before .before .none .ensures); stacks = simp (fits, long, short); counts = simp (fits, long, short) }
+    record { answer = simp (fits, long, short); left = simp (fits, long, short) (ap (λ (x : Opened). world x (a .stacks .now) (a .counts .now)) (c .before .before .before .before .before .before .none .ensures)) }
 
 clear-requires : tie.Need-clear-requires
 clear-requires c κs = search needs
@@ -104,7 +108,7 @@ returns-4 c =
     let fits = within-test (a .order) _ (c .before .before .before .before .before .before .before .before .before .before .before .is-within .ensures) (c .before .before .before .before .before .before .before .before .before .before .if1 .left) in
     let long = le-ltb (length (a .stacks .now)) (stackNeed (a .order)) (c .before .before .before .before .before .before .before .before .before .if2 .left) in
     let wide = le-ltb (length (a .counts .now)) (countNeed (a .order)) (c .before .before .before .before .before .before .before .before .if3 .left) in
-    record { answer = simp (fits, long, wide); state = simp (fits, long, wide); stacks = simp (fits, long, wide) (c .before .before .before .before .before .before .clear .ensures); counts = simp (fits, long, wide) (c .before .before .clear2 .ensures) }
+    record { answer = simp (fits, long, wide); left = simp (fits, long, wide) (ap₂ (λ (x y : List ℕ). world (fresh (a .order)) x y) (c .before .before .before .before .before .before .clear .ensures) (c .before .before .clear2 .ensures)) }
 
 pub open-spec : {M : Type 1} → statement M
 open-spec =

@@ -1,0 +1,4 @@
+pub mod AnswerLaws
+pub mod CallLaws
+pub mod HistoryLaws
+pub mod WorldLaws

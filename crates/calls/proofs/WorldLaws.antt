@@ -1,0 +1,123 @@
+-- Block sizes cut out of a world and put back: each is read back as it was put, and every entry that is no size's stays.
+-- Assumes nothing.
+use Prim.Native.Nat.{ℕ, zero, suc, _+_, _-_, _*_, _≤_, _<_}
+use mathlib.Core.Path.{_≡_, refl, sym, ap, ap₂, _∙_}
+use mathlib.Core.Bool.{Bool, true, false, cond}
+use mathlib.Core.List.{List, [], _∷_, _++_}
+use native.Mathlib.Omega.{arith}
+use lib.Dec.{eqb, ltb}
+use lib.ListN.{length, take, drop, getD, replicate, length-append, length-replicate, getD-replicate}
+use lib.Seq.{take-append-seam, take-take, getD-append-add}
+use borrow.Author.Tests.{ltb-true, ltb-false}
+use Rattle.lists.specs.Tables.{part, padded, writtenRows, setLengths}
+use Rattle.lists.proofs.Cases.{cases}
+use Rattle.lists.proofs.PartLaws.{row-in, length-part, part-at, length-rows, row-after, entry-after, length-setLengths, setLengths-at}
+use Rattle.order.specs.declared.Order.{Order}
+use Rattle.order.specs.Limits.{sizes, span, stackNeed, countNeed}
+use Rattle.sizes.specs.Size.{Size}
+use Rattle.sizes.proofs.SizeLaws.{need-spans}
+use Rattle.taking.specs.Places.{usedOf}
+use Rattle.taking.specs.Parts.{Fit}
+use Rattle.taking.specs.World.{World, sizeAt, withSizes}
+
+-- refusals 1 to 4 do not apply, and the state has its eight used lengths
+pub record Fitted (w : World) : Type 0 where
+  pub fit : Fit (w .state) (length (w .stacks)) (length (w .counts))
+  pub eight : length (w .state .used) ≡ 8
+
+-- block sizes that can be put back
+pub record Fitting (w : World) (f : ℕ → Size) : Type 0 where
+  pub total : (k : ℕ) → k < sizes (w .state .order) → f k .total ≡ f 0 .total
+  pub stack : (k : ℕ) → k < sizes (w .state .order) → length (f k .stack) ≤ w .state .order .room
+  pub counts : (k : ℕ) → k < sizes (w .state .order) → length (f k .counts) ≡ span (w .state .order)
+
+abbrev size : ℕ → List ℕ → List ℕ → Size
+size n q c = record { total = n; stack = q; counts = c }
+
+length-padded : (n : ℕ) (l : List ℕ) → length (padded n l) ≡ length l + (n - length l)
+length-padded n l = length-append l (replicate (n - length l) 0) ∙ ap (λ (m : ℕ). length l + m) (length-replicate {A = ℕ} (n - length l) 0)
+
+module _ (w : World) (s : Fitted w) where
+  -- the stack and the counts of a size
+  pub length-at : (k : ℕ) → k < sizes (w .state .order) → length (sizeAt w k .stack) ≡ usedOf (w .state) k
+  length-at k h =
+      length-part (k * w .state .order .room) (usedOf (w .state) k) (w .stacks) (omega (arith, row-in k (sizes (w .state .order)) (w .state .order .room) h, s .fit .long, s .fit .used k h))
+
+  pub span-at : (k : ℕ) → k < sizes (w .state .order) → length (sizeAt w k .counts) ≡ span (w .state .order)
+  span-at k h =
+      length-part (k * span (w .state .order)) (span (w .state .order)) (w .counts)
+      (omega (arith, row-in k (sizes (w .state .order)) (span (w .state .order)) h, s .fit .wide, need-spans (w .state .order)))
+
+  module _ (f : ℕ → Size) (g : Fitting w f) where
+    abbrev o : Order
+    o = w .state .order
+
+    abbrev top : ℕ → List ℕ
+    top k = padded (usedOf (w .state) k) (f k .stack)
+
+    fits : (k : ℕ) → k < sizes o → length (top k) ≤ o .room
+    fits k h = omega (arith, length-padded (usedOf (w .state) k) (f k .stack), g .stack k h, s .fit .used k h)
+
+    wide : sizes o * span o ≤ length (w .counts)
+    wide = omega (arith, s .fit .wide, need-spans o)
+
+    span-fits : (k : ℕ) → k < sizes o → length (f k .counts) ≤ span o
+    span-fits k h = omega (arith, g .counts k h)
+
+    few : sizes o ≤ length (w .state .used)
+    few = omega (arith, s .fit .numbers, s .eight)
+
+    pub used-back : (k : ℕ) → k < sizes o → usedOf (withSizes w f .state) k ≡ length (f k .stack)
+    used-back k h = setLengths-at (λ (k : ℕ). f k .stack) (sizes o) k (w .state .used) few h
+
+    pub fitted-back : f 0 .total ≤ o .refs → Fitted (withSizes w f)
+    fitted-back below = record {
+      fit = record {
+        numbers = s .fit .numbers;
+        long = rw (length-rows (o .room) top (w .stacks) (sizes o) (s .fit .long) fits (sizes o) (omega arith)) (s .fit .long);
+        wide = rw (length-rows (span o) (λ (k : ℕ). f k .counts) (w .counts) (sizes o) wide span-fits (sizes o) (omega arith)) (s .fit .wide);
+        used = λ k h. rw (used-back k h) (g .stack k h);
+        ceiling = below;
+      };
+      eight = length-setLengths (λ (k : ℕ). f k .stack) (sizes o) (w .state .used) ∙ s .eight;
+    }
+
+    stack-back : (k : ℕ) → k < sizes o → sizeAt (withSizes w f) k .stack ≡ f k .stack
+    stack-back k h =
+        let under : length (f k .stack) ≤ length (top k) = omega (arith, length-padded (usedOf (w .state) k) (f k .stack)) in
+        ap (λ (n : ℕ). part (k * o .room) n (withSizes w f .stacks)) (used-back k h)
+        ∙ sym (take-take (length (f k .stack)) (length (top k)) (drop (k * o .room) (withSizes w f .stacks)) under)
+        ∙ ap (take (length (f k .stack))) (row-after (o .room) top (w .stacks) (sizes o) (s .fit .long) fits (sizes o) k (omega arith) h)
+        ∙ take-append-seam (f k .stack) (replicate (usedOf (w .state) k - length (f k .stack)) 0)
+
+    counts-back : (k : ℕ) → k < sizes o → sizeAt (withSizes w f) k .counts ≡ f k .counts
+    counts-back k h =
+        ap (λ (n : ℕ). part (k * span o) n (withSizes w f .counts)) (sym (g .counts k h))
+        ∙ row-after (span o) (λ (k : ℕ). f k .counts) (w .counts) (sizes o) wide span-fits (sizes o) k (omega arith) h
+
+    -- THE LAW
+    pub size-back : (k : ℕ) → k < sizes o → sizeAt (withSizes w f) k ≡ f k
+    size-back k h =
+        ap (λ (n : ℕ). size n (sizeAt (withSizes w f) k .stack) (sizeAt (withSizes w f) k .counts)) (sym (g .total k h))
+        ∙ ap₂ (λ (q c : List ℕ). size (f k .total) q c) (stack-back k h) (counts-back k h)
+
+    -- where all beyond the used lengths was zero, it still is
+    pub blank-back : (k j : ℕ) → k < sizes o → (usedOf (w .state) k ≤ j → getD (w .stacks) (k * o .room + j) 0 ≡ 0)
+        → usedOf (withSizes w f .state) k ≤ j → j < o .room → getD (withSizes w f .stacks) (k * o .room + j) 0 ≡ 0
+    blank-back k j h was past below =
+        let from : length (f k .stack) ≤ j = rw (← used-back k h) past in
+        let long = length-padded (usedOf (w .state) k) (f k .stack) in
+        cases (ltb j (length (top k)))
+        (λ t.
+        let in-top = ltb-true j (length (top k)) t in
+        let i = j - length (f k .stack) in
+        let back : length (f k .stack) + (j - length (f k .stack)) ≡ j = omega arith in
+        sym (part-at (k * o .room) (length (top k)) (withSizes w f .stacks) j in-top)
+        ∙ ap (λ (q : List ℕ). getD q j 0) (row-after (o .room) top (w .stacks) (sizes o) (s .fit .long) fits (sizes o) k (omega arith) h)
+        ∙ ap (λ (n : ℕ). getD (top k) n 0) (sym back)
+        ∙ getD-append-add (f k .stack) (replicate (usedOf (w .state) k - length (f k .stack)) 0) i 0
+        ∙ getD-replicate (usedOf (w .state) k - length (f k .stack)) i 0 0 (omega arith))
+        (λ t.
+        let beyond = ltb-false j (length (top k)) t in
+        entry-after (o .room) top (w .stacks) (sizes o) (s .fit .long) fits (sizes o) k j (omega arith) h beyond below
+        ∙ was (omega arith))

@@ -1,0 +1,1 @@
+// No code: the definitions are in specs/ and the laws in proofs/. Start at specs/Cache.antt.
