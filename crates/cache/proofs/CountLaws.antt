@@ -71,7 +71,9 @@ place-count d s st x = cases (mem x st) (λ e. simp e) (λ e. simp e)
 at-most-one : (d s : ℕ) (st : List ℕ) (e : Event) → atDepth d (stackPlace s st e) ≤ touched e
 at-most-one d s st (touch x) =
     rw (place-count d s st x)
-    (cases (mem x st) (λ f. simp f (cases (eqb d (depth s x st)) (λ e. simp e (omega arith)) (λ e. simp e (omega arith)))) (λ f. simp f (omega arith)))
+    (cases (mem x st)
+    (λ f. simp f (cases (eqb d (depth s x st)) (λ e. simp e (omega arith)) (λ e. simp e (omega arith))))
+    (λ f. simp f (omega arith)))
 
 few : (d s : ℕ) (st : List ℕ) (es : List Event) → total (atDepth d) (answers stackStep (stackPlace s) st es) ≤ total touched es
 few d s st [] = omega arith

@@ -1,5 +1,7 @@
 pub mod CountLaws
+pub mod GivenLaws
 pub mod InclusionLaws
+pub mod SeenLaws
 pub mod SetLaws
 pub mod SizeLaws
 pub mod StackLaws

@@ -64,9 +64,17 @@ same-of-xor =
 pub shared : (s k x y : ℕ) → s ≤ k → leb s (trailingZeros k (bitXor x y)) ≡ eqb (setOf s x) (setOf s y)
 unfolding setOf
 shared s k x y h =
-    cases (leb s (trailingZeros k (bitXor x y)))
-    (λ e. e ∙ sym (eq-eqb (x % 2 ^ s) (y % 2 ^ s) (same-of-xor (x % 2 ^ s) (y % 2 ^ s) (sym (xor-mod x y s) ∙ mod-of-zeros k (bitXor x y) s (leb-true s _ e)))))
-    (λ e. e ∙ sym (ne-eqb (x % 2 ^ s) (y % 2 ^ s) (λ q. apart e (zeros-of-mod k (bitXor x y) s h (xor-mod x y s ∙ ap (bitXor (x % 2 ^ s)) (sym q) ∙ xor-self (x % 2 ^ s))))))
+    cases (leb s zeros)
+    (λ e.
+    let low = sym (xor-mod x y s) ∙ mod-of-zeros k (bitXor x y) s (leb-true s zeros e) in
+    e ∙ sym (eq-eqb (x % 2 ^ s) (y % 2 ^ s) (same-of-xor (x % 2 ^ s) (y % 2 ^ s) low)))
+    (λ e. e ∙ sym (ne-eqb (x % 2 ^ s) (y % 2 ^ s) (λ q. apart e (zeros-of-mod k (bitXor x y) s h (same-low q)))))
   where
-    apart : leb s (trailingZeros k (bitXor x y)) ≡ false → s ≤ trailingZeros k (bitXor x y) → ⊥
-    apart e l = true≢false (sym (le-leb s (trailingZeros k (bitXor x y)) l) ∙ e)
+    zeros : ℕ
+    zeros = trailingZeros k (bitXor x y)
+
+    apart : leb s zeros ≡ false → s ≤ zeros → ⊥
+    apart e l = true≢false (sym (le-leb s zeros l) ∙ e)
+
+    same-low : x % 2 ^ s ≡ y % 2 ^ s → bitXor x y % 2 ^ s ≡ 0
+    same-low q = xor-mod x y s ∙ ap (bitXor (x % 2 ^ s)) (sym q) ∙ xor-self (x % 2 ^ s)

@@ -48,11 +48,14 @@ module _ (b k : ℕ) where
   abbrev larger : ℕ → ℕ
   larger y = y / 2 ^ k
 
-  covers-given : (g : Given) (st st′ : List ℕ) → Covers larger st st′ → Covers larger (after stackStep st (eventsAt b g)) (after stackStep st′ (eventsAt (b + k) g))
+  covers-given : (g : Given) (st st′ : List ℕ) → Covers larger st st′
+      → Covers larger (after stackStep st (eventsAt b g)) (after stackStep st′ (eventsAt (b + k) g))
   covers-given (ref a) st st′ c =
-      subst (λ (y : ℕ). Covers larger (blockOf b a ∷ remove (blockOf b a) st) (y ∷ remove y st′)) (sym (block-larger b k a)) (covers-step larger (blockOf b a) st st′ c)
+      subst (λ (y : ℕ). Covers larger (blockOf b a ∷ remove (blockOf b a) st) (y ∷ remove y st′)) (sym (block-larger b k a))
+      (covers-step larger (blockOf b a) st st′ c)
 
-  covers-all : (l : List Given) (st st′ : List ℕ) → Covers larger st st′ → Covers larger (after stackStep st (eventsOf b l)) (after stackStep st′ (eventsOf (b + k) l))
+  covers-all : (l : List Given) (st st′ : List ℕ) → Covers larger st st′
+      → Covers larger (after stackStep st (eventsOf b l)) (after stackStep st′ (eventsOf (b + k) l))
   covers-all [] st st′ c = c
   covers-all (g ∷ l) st st′ c =
       rw (after-append stackStep st (eventsAt b g) (eventsOf b l), after-append stackStep st′ (eventsAt (b + k) g) (eventsOf (b + k) l))

@@ -1,17 +1,26 @@
 -- The stack of one block size and the depth of a block in it (document 01, "The stack and the counts").
 -- Assumes nothing.
 use Prim.Native.Nat.{ℕ}
-use mathlib.Core.Bool.{cond}
+use mathlib.Core.Bool.{Bool, false, cond, _||_}
 use mathlib.Core.List.{List, [], _∷_}
 use lib.Dec.{eqb, ltb}
 use lib.ListN.{length}
 use Rattle.lists.specs.Members.{mem, remove, above, keep}
-use Rattle.lists.specs.Runs.{answers}
-use Rattle.cache.specs.Cache.{setOf, Event, touch, Answer, hit, miss}
+use Rattle.lists.specs.Runs.{answers, after}
+use Rattle.cache.specs.Cache.{setOf, Event, touch, Answer, hit, miss, Given, eventsOf}
 
 -- the block goes to the top: blocks that were above it move down one, the others stay; under a new block all move down one
 abbrev pub stackStep : List ℕ → Event → List ℕ
 stackStep st (touch x) = x ∷ remove x st
+
+-- some event touches block x: then, and only then, it is in the stack (proofs/SeenLaws.antt)
+abbrev pub isSeen : ℕ → List Event → Bool
+isSeen x [] = false
+isSeen x (touch y ∷ es) = eqb x y || isSeen x es
+
+-- the distinct blocks of 2^b bytes seen over a list of given things, most recent first
+abbrev pub seenIn : ℕ → List Given → List ℕ
+seenIn b l = after stackStep [] (eventsOf b l)
 
 -- how many blocks above x in the stack have its set number at 2^s sets
 abbrev pub depth : ℕ → ℕ → List ℕ → ℕ

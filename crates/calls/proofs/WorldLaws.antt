@@ -11,7 +11,7 @@ use lib.Seq.{take-append-seam, take-take, getD-append-add}
 use borrow.Author.Tests.{ltb-true, ltb-false}
 use Rattle.lists.specs.Tables.{part, padded, writtenRows, setLengths}
 use Rattle.lists.proofs.Cases.{cases}
-use Rattle.lists.proofs.PartLaws.{row-in, length-part, part-at, length-rows, row-after, entry-after, length-setLengths, setLengths-at}
+use Rattle.lists.proofs.PartLaws.{row-in, length-part, part-at, length-rows, drop-rows, row-after, entry-after, length-setLengths, setLengths-at}
 use Rattle.order.specs.declared.Order.{Order}
 use Rattle.order.specs.Limits.{sizes, span, stackNeed, countNeed}
 use Rattle.sizes.specs.Size.{Size}
@@ -20,9 +20,13 @@ use Rattle.taking.specs.Places.{usedOf}
 use Rattle.taking.specs.Parts.{Fit}
 use Rattle.taking.specs.World.{World, sizeAt, withSizes}
 
--- refusals 1 to 4 do not apply, and the state has its eight used lengths
+-- refusals 1 to 4 do not apply
+abbrev pub Fits : World → Type 0
+Fits w = Fit (w .state) (length (w .stacks)) (length (w .counts))
+
+-- and the state has its eight used lengths
 pub record Fitted (w : World) : Type 0 where
-  pub fit : Fit (w .state) (length (w .stacks)) (length (w .counts))
+  pub fit : Fits w
   pub eight : length (w .state .used) ≡ 8
 
 -- block sizes that can be put back
@@ -37,32 +41,59 @@ size n q c = record { total = n; stack = q; counts = c }
 length-padded : (n : ℕ) (l : List ℕ) → length (padded n l) ≡ length l + (n - length l)
 length-padded n l = length-append l (replicate (n - length l) 0) ∙ ap (λ (m : ℕ). length l + m) (length-replicate {A = ℕ} (n - length l) 0)
 
-module _ (w : World) (s : Fitted w) where
+-- the stack of size k as it is put back: what it had used and has no more is zero
+abbrev topOf : World → (ℕ → Size) → ℕ → List ℕ
+topOf w f k = padded (usedOf (w .state) k) (f k .stack)
+
+module _ (w : World) (t : Fits w) where
   -- the stack and the counts of a size
   pub length-at : (k : ℕ) → k < sizes (w .state .order) → length (sizeAt w k .stack) ≡ usedOf (w .state) k
   length-at k h =
-      length-part (k * w .state .order .room) (usedOf (w .state) k) (w .stacks) (omega (arith, row-in k (sizes (w .state .order)) (w .state .order .room) h, s .fit .long, s .fit .used k h))
+      length-part (k * w .state .order .room) (usedOf (w .state) k) (w .stacks)
+      (omega (arith, row-in k (sizes (w .state .order)) (w .state .order .room) h, t .long, t .used k h))
 
   pub span-at : (k : ℕ) → k < sizes (w .state .order) → length (sizeAt w k .counts) ≡ span (w .state .order)
   span-at k h =
       length-part (k * span (w .state .order)) (span (w .state .order)) (w .counts)
-      (omega (arith, row-in k (sizes (w .state .order)) (span (w .state .order)) h, s .fit .wide, need-spans (w .state .order)))
+      (omega (arith, row-in k (sizes (w .state .order)) (span (w .state .order)) h, t .wide, need-spans (w .state .order)))
 
+  module _ (f : ℕ → Size) (g : Fitting w f) where
+    top-fits : (k : ℕ) → k < sizes (w .state .order) → length (topOf w f k) ≤ w .state .order .room
+    top-fits k h = omega (arith, length-padded (usedOf (w .state) k) (f k .stack), g .stack k h, t .used k h)
+
+    spans-fit : sizes (w .state .order) * span (w .state .order) ≤ length (w .counts)
+    spans-fit = omega (arith, t .wide, need-spans (w .state .order))
+
+    span-fits : (k : ℕ) → k < sizes (w .state .order) → length (f k .counts) ≤ span (w .state .order)
+    span-fits k h = omega (arith, g .counts k h)
+
+    -- entries past what the order needs stay
+    pub stacks-past : drop (stackNeed (w .state .order)) (withSizes w f .stacks) ≡ drop (stackNeed (w .state .order)) (w .stacks)
+    stacks-past =
+        drop-rows (w .state .order .room) (topOf w f) (w .stacks) (sizes (w .state .order)) (t .long) top-fits (sizes (w .state .order)) (omega arith)
+
+    pub counts-past : drop (countNeed (w .state .order)) (withSizes w f .counts) ≡ drop (countNeed (w .state .order)) (w .counts)
+    counts-past =
+        rw (need-spans (w .state .order))
+        (drop-rows (span (w .state .order)) (λ (k : ℕ). f k .counts) (w .counts) (sizes (w .state .order)) spans-fit span-fits
+        (sizes (w .state .order)) (omega arith))
+
+module _ (w : World) (s : Fitted w) where
   module _ (f : ℕ → Size) (g : Fitting w f) where
     abbrev o : Order
     o = w .state .order
 
     abbrev top : ℕ → List ℕ
-    top k = padded (usedOf (w .state) k) (f k .stack)
+    top = topOf w f
 
     fits : (k : ℕ) → k < sizes o → length (top k) ≤ o .room
-    fits k h = omega (arith, length-padded (usedOf (w .state) k) (f k .stack), g .stack k h, s .fit .used k h)
+    fits = top-fits w (s .fit) f g
 
     wide : sizes o * span o ≤ length (w .counts)
-    wide = omega (arith, s .fit .wide, need-spans o)
+    wide = spans-fit w (s .fit) f g
 
-    span-fits : (k : ℕ) → k < sizes o → length (f k .counts) ≤ span o
-    span-fits k h = omega (arith, g .counts k h)
+    narrow : (k : ℕ) → k < sizes o → length (f k .counts) ≤ span o
+    narrow = span-fits w (s .fit) f g
 
     few : sizes o ≤ length (w .state .used)
     few = omega (arith, s .fit .numbers, s .eight)
@@ -75,7 +106,7 @@ module _ (w : World) (s : Fitted w) where
       fit = record {
         numbers = s .fit .numbers;
         long = rw (length-rows (o .room) top (w .stacks) (sizes o) (s .fit .long) fits (sizes o) (omega arith)) (s .fit .long);
-        wide = rw (length-rows (span o) (λ (k : ℕ). f k .counts) (w .counts) (sizes o) wide span-fits (sizes o) (omega arith)) (s .fit .wide);
+        wide = rw (length-rows (span o) (λ (k : ℕ). f k .counts) (w .counts) (sizes o) wide narrow (sizes o) (omega arith)) (s .fit .wide);
         used = λ k h. rw (used-back k h) (g .stack k h);
         ceiling = below;
       };
@@ -93,7 +124,7 @@ module _ (w : World) (s : Fitted w) where
     counts-back : (k : ℕ) → k < sizes o → sizeAt (withSizes w f) k .counts ≡ f k .counts
     counts-back k h =
         ap (λ (n : ℕ). part (k * span o) n (withSizes w f .counts)) (sym (g .counts k h))
-        ∙ row-after (span o) (λ (k : ℕ). f k .counts) (w .counts) (sizes o) wide span-fits (sizes o) k (omega arith) h
+        ∙ row-after (span o) (λ (k : ℕ). f k .counts) (w .counts) (sizes o) wide narrow (sizes o) k (omega arith) h
 
     -- THE LAW
     pub size-back : (k : ℕ) → k < sizes o → sizeAt (withSizes w f) k ≡ f k

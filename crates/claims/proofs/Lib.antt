@@ -1,2 +1,3 @@
+pub mod CallOutcomes
 pub mod Claims
-pub mod Outcomes
+pub mod StripOutcomes

@@ -1,5 +1,6 @@
 pub mod Cases
 pub mod CutLaws
+pub mod DistinctLaws
 pub mod MemberLaws
 pub mod PartLaws
 pub mod RaiseLaws

@@ -1,6 +1,7 @@
 -- What is in a list of numbers, and where. Where a number stands several times, the first one counts.
 -- Assumes nothing.
 use Prim.Native.Nat.{ℕ}
+use mathlib.Core.Path.{_≡_}
 use mathlib.Core.Bool.{Bool, true, false, cond, _||_}
 use mathlib.Core.List.{List, [], _∷_}
 use lib.Dec.{eqb}
@@ -24,3 +25,8 @@ above x (y ∷ ys) = cond (eqb x y) [] (y ∷ above x ys)
 abbrev pub keep : (ℕ → Bool) → List ℕ → List ℕ
 keep p [] = []
 keep p (y ∷ ys) = cond (p y) (y ∷ keep p ys) (keep p ys)
+
+-- no number stands in the list twice
+abbrev pub Distinct : List ℕ → Type 0
+Distinct [] = Unit {0}
+Distinct (x ∷ l) = (mem x l ≡ false) × Distinct l

@@ -27,7 +27,8 @@ use Rattle.runs.specs.Input.{Runs, isBegin, headerOf, traceOf, orderIn, 
 use Rattle.runs.specs.Endings.{Ending, endsAt, traceEnding, inputEnding}
 use Rattle.calls.proofs.HistoryLaws.{History}
 use Rattle.runs.proofs.InputLaws.{run-determined}
-use Rattle.calls.proofs.AnswerLaws.{count-is, misses-after}
+use Rattle.calls.proofs.AnswerLaws.{count-is}
+use Rattle.calls.proofs.QuestionLaws.{misses-are}
 use Rattle.runs.proofs.NumberLaws.{step-reported}
 use Rattle.runs.proofs.HeaderLaws.{Heading, Begun, few-said}
 use Rattle.runs.proofs.BeginLaws.{step-headed}
@@ -136,9 +137,7 @@ module _ (st ct : List ℕ) (lines : List (List ℕ)) (o : Outcome) (run : Runs 
     pub program-misses : (b s w : ℕ) → has (orderIn (headerOf lines)) b s w ≡ true → (q : Counted) → q ≡ missesOf (o .left .reading .opened) (o .left .counts) b s w
         → (q .answer ≡ 0) × (q .misses ≡ missesOver b s w (givenOf lines))
     program-misses b s w h q e =
-        let there = subst (λ (x : Order). has x b s w ≡ true) (sym program-order) h in
-        let given = e ∙ misses-after (worldOf (o .left)) (givenOf lines) (leads .end done .history) b s w there in
-        (ap (λ (x : Counted). x .answer) given, ap (λ (x : Counted). x .misses) given)
+        misses-are (worldOf (o .left)) (givenOf lines) (leads .end done .history) b s w (subst (λ (x : Order). has x b s w ≡ true) (sym program-order) h) q e
 
     -- `refs=` is how many references they are, and `skipped=` how many other lines the trace has
     pub program-refs : o .left .reading .opened .taken ≡ total referred (givenOf lines)
