@@ -36,10 +36,10 @@ use Rattle.runs.specs.Input.{Runs, headerOf, traceOf, orderIn, givenOf}
 use Rattle.runs.specs.Endings.{inputEnding}
 use Rattle.runs.proofs.EndingLaws.{run-listed}
 use Rattle.runs.proofs.ProgramLaws.{program-answer, program-line, program-misses, program-refs, program-skipped}
-use Rattle.claims.proofs.Outcomes.{strip-refused, strip-short, strip-untouched, misses-promised, answer-promised, neither-4-nor-7}
+use Rattle.claims.proofs.Outcomes.{misses-promised, answer-promised, neither-4-nor-7}
 use Rattle.strip.specs.declared.Stripped.{Stripped}
 use Rattle.strip.specs.Strip.{keptOf, stripLimits, Strips}
-use Rattle.strip.proofs.StripClaims.{left-is-kept, kept-as-before, dropped-hit, misses-same}
+use Rattle.strip.proofs.StripClaims.{strip-refused, strip-short, strip-untouched, left-is-kept, kept-as-before, dropped-hit, misses-same}
 
 -- ---- Demand 1: a refusal comes exactly in the case listed for it, and leaves each lent table as listed
 

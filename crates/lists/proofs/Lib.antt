@@ -2,7 +2,9 @@ pub mod Cases
 pub mod CutLaws
 pub mod MemberLaws
 pub mod PartLaws
+pub mod PassLaws
 pub mod RaiseLaws
 pub mod RunLaws
 pub mod SumLaws
 pub mod TestLaws
+pub mod ZeroLaws
