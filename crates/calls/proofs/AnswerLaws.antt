@@ -34,9 +34,6 @@ use Rattle.taking.specs.Questions.{asked, has, hitsOf, missesAnswer, missesOf}
 use Rattle.taking.specs.declared.Counted.{Counted}
 use Rattle.calls.proofs.HistoryLaws.{History, touches-one, events-one, size-next}
 
-abbrev counted : ℕ → ℕ → Counted
-counted x y = record { answer = x; misses = y }
-
 -- the touches at any block size are the references
 pub touches-all : (b : ℕ) (l : List Given) → total touched (eventsOf b l) ≡ total referred l
 touches-all b [] = refl
@@ -107,7 +104,8 @@ module _ (w : World) (past : List Given) (i : History w past) where
         ∙ ap₂ (λ (t u : Bool). cond (eqb (w .state .taken) (o .refs)) 5 (cond t 6 (cond u 7 0))) full-by-smallest none-over
 
   -- the misses of a cache of the order
-  pub misses-after : (b s n : ℕ) → has o b s n ≡ true → missesOf (w .state) (w .counts) b s n ≡ record { answer = 0; misses = missesOver b s n past }
+  pub misses-after : (b s n : ℕ) → has o b s n ≡ true
+      → missesOf (w .state) (w .counts) b s n ≡ record { state = w .state; answer = 0; misses = missesOver b s n past }
   misses-after b s n h =
       let zero-answer : missesAnswer (w .state) (w .counts) b s n ≡ 0 = simp (
         all-yes (limits o) (fit .numbers),
@@ -116,7 +114,7 @@ module _ (w : World) (past : List Given) (i : History w past) where
         h,
         le-ltb (w .state .taken) (hitsOf (w .state) (w .counts) b s n) few-hits,
       ) in
-      ap₂ (λ (x y : ℕ). counted x y) zero-answer
+      ap₂ {C = Counted} (λ (x y : ℕ). record { state = w .state; answer = x; misses = y }) zero-answer
       (ap (λ (m : ℕ). cond (eqb m 0) (w .state .taken - hitsOf (w .state) (w .counts) b s n) 0) zero-answer
       ∙ ap₂ _-_ (ap (λ (q : Size). q .total) here) hits
       ∙ size-misses o (eventsOf b past) s n in-rows in-ways)

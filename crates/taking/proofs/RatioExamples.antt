@@ -35,11 +35,12 @@ worked n used = record {
 }
 
 -- after all 8 references, 3 of them hits in (4, 1, 2)
-pub worked-ratios : ratiosOf (worked 8 (4 ∷ replicate 7 0)) (0 ∷ 0 ∷ 1 ∷ 2 ∷ []) 4 1 2 ≡ record { answer = 0; ratios = fiveOfEight }
+pub worked-ratios : ratiosOf (worked 8 (4 ∷ replicate 7 0)) (0 ∷ 0 ∷ 1 ∷ 2 ∷ []) 4 1 2
+    ≡ record { state = worked 8 (4 ∷ replicate 7 0); answer = 0; ratios = fiveOfEight }
 unfolding round anyTo allLe
 worked-ratios = refl
 
 -- before the first
-pub worked-before : ratiosOf (worked 0 (replicate 8 0)) (replicate 4 0) 4 1 2 ≡ record { answer = 9; ratios = noRatios }
+pub worked-before : ratiosOf (worked 0 (replicate 8 0)) (replicate 4 0) 4 1 2 ≡ record { state = worked 0 (replicate 8 0); answer = 9; ratios = noRatios }
 unfolding anyTo allLe
 worked-before = refl

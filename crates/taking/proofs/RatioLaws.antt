@@ -37,13 +37,13 @@ positive-zero = refl
 
 -- where misses answers r, as its contract c says, with n references taken and blocks of 2^b bytes
 module _ (c r : Counted) (n b : ℕ) (e : r ≡ c) where
-  pub rated-refused : (r .answer ≡ 0 → ⊥) → _≡_ {A = Rated} (record { answer = r .answer; ratios = zeros }) (ratiosFrom c n b)
+  pub rated-refused : (r .answer ≡ 0 → ⊥) → _≡_ {A = Rated} (record { state = c .state; answer = r .answer; ratios = zeros }) (ratiosFrom c n b)
   rated-refused h = rw (← e) (simp (ne-eqb (r .answer) 0 h, positive-zero))
 
-  pub rated-none : r .answer ≡ 0 → n ≡ 0 → _≡_ {A = Rated} (record { answer = noReferences; ratios = zeros }) (ratiosFrom c n b)
+  pub rated-none : r .answer ≡ 0 → n ≡ 0 → _≡_ {A = Rated} (record { state = c .state; answer = noReferences; ratios = zeros }) (ratiosFrom c n b)
   rated-none h z = rw (← e) (simp (h, z, positive-zero))
 
-  pub rated-given : r .answer ≡ 0 → (n ≡ 0 → ⊥) → _≡_ {A = Rated} (record { answer = 0; ratios = ratiosAt (r .misses) n b }) (ratiosFrom c n b)
+  pub rated-given : r .answer ≡ 0 → (n ≡ 0 → ⊥) → _≡_ {A = Rated} (record { state = c .state; answer = 0; ratios = ratiosAt (r .misses) n b }) (ratiosFrom c n b)
   rated-given h z = rw (← e) (simp (h, ne-eqb n 0 z))
 
 given-facts : (c : Counted) (n : ℕ) → ratiosAnswer c n ≡ 0 → (c .answer ≡ 0) × (n ≡ 0 → ⊥)

@@ -37,9 +37,10 @@ missesAnswer v ct b s w =
     ∷ (ltb (v .taken) (hitsOf v ct b s w), countOver)
     ∷ [])
 
--- the references taken less the hits; zero beside a refusal
+-- the state as it was handed in, refused or not; the references taken less the hits, zero beside a refusal
 abbrev pub missesOf : Opened → List ℕ → ℕ → ℕ → ℕ → Counted
 missesOf v ct b s w = record {
+  state = v;
   answer = missesAnswer v ct b s w;
   misses = cond (eqb (missesAnswer v ct b s w) 0) (v .taken - hitsOf v ct b s w) 0;
 }

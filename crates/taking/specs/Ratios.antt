@@ -30,9 +30,10 @@ noRatios = record { miss = fin false 0 (pos 0); traffic = fin false 0 (pos 0) }
 abbrev pub ratiosAnswer : Counted → ℕ → ℕ
 ratiosAnswer c taken = firstOf ((not (eqb (c .answer) 0), c .answer) ∷ (eqb taken 0, noReferences) ∷ [])
 
--- the ratios where none of these applies
+-- the state as it was handed in, and the ratios where none of these applies
 abbrev pub ratiosFrom : Counted → ℕ → ℕ → Rated
 ratiosFrom c taken b = record {
+  state = c .state;
   answer = ratiosAnswer c taken;
   ratios = cond (eqb (ratiosAnswer c taken) 0) (ratiosAt (c .misses) taken b) noRatios;
 }

@@ -47,8 +47,9 @@ pub struct Reply {
     pub answer: u32,
 }
 
-// How often a cache missed, beside the answer number: 0 where that is not 0.
+// How often a cache missed, beside the answer number: 0 where that is not 0. The state is as it was handed in.
 pub struct Counted {
+    pub state: Opened,
     pub answer: u32,
     pub misses: u32,
 }
@@ -59,8 +60,9 @@ pub struct Ratios {
     pub traffic: f64,
 }
 
-// Both ratios, beside the answer number: zeros where that is not 0.
+// Both ratios, beside the answer number: zeros where that is not 0. The state is as it was handed in.
 pub struct Rated {
+    pub state: Opened,
     pub answer: u32,
     pub ratios: Ratios,
 }
@@ -276,6 +278,7 @@ impl Opened {
         let taken = self.taken as u64;
         if !order.is_within() {
             return Counted {
+                state: self,
                 answer: refusal::OUTSIDE_LIMITS,
                 misses: 0,
             };
@@ -284,18 +287,21 @@ impl Opened {
         let rows = (smax + 1) as usize;
         if counts.len() < sizes * rows * ways {
             return Counted {
+                state: self,
                 answer: refusal::SHORT_COUNTS,
                 misses: 0,
             };
         }
         if self.is_foreign() {
             return Counted {
+                state: self,
                 answer: refusal::FOREIGN_STATE,
                 misses: 0,
             };
         }
         if !self.has(b, s, w) {
             return Counted {
+                state: self,
                 answer: refusal::NOT_IN_ORDER,
                 misses: 0,
             };
@@ -304,11 +310,13 @@ impl Opened {
         let hits = summed(counts, (k * rows + s as usize) * ways, w as usize);
         if taken < hits {
             return Counted {
+                state: self,
                 answer: refusal::COUNT_OVER,
                 misses: 0,
             };
         }
         Counted {
+            state: self,
             answer: refusal::DONE,
             misses: (taken - hits) as u32,
         }
@@ -327,17 +335,20 @@ impl Opened {
         let counted = self.misses(counts, b, s, w);
         if counted.answer != refusal::DONE {
             return Rated {
+                state: self,
                 answer: counted.answer,
                 ratios: none,
             };
         }
         if taken == 0 {
             return Rated {
+                state: self,
                 answer: refusal::NO_REFERENCES,
                 ratios: none,
             };
         }
         Rated {
+            state: self,
             answer: refusal::DONE,
             ratios: rated(counted.misses, taken, asked),
         }
