@@ -10,10 +10,14 @@ use lib.Arith.{bin-ind}
 use lib.Bits.{bitXor, differ, xor-step, xor-self, xor-mod}
 use lib.Count.{trailingZeros, under}
 use lib.Dec.{eqb, leb}
-use lib.Pow.{mod-pow-add, mod-mod-pow}
+use lib.Pow.{mod-pow-add, mod-mod-pow, pow-pos}
 use borrow.Author.Tests.{eqb-true, eqb-false, eq-eqb, ne-eqb, leb-true, leb-false, le-leb, lt-leb}
 use Rattle.lists.proofs.Cases.{cases}
 use Rattle.cache.specs.Cache.{setOf}
+
+pub set-below : (s x : ℕ) → setOf s x < 2 ^ s
+unfolding setOf
+set-below s x = mod-lt x (pow-pos s)
 
 -- blocks that share a set share one wherever there are fewer sets
 pub set-fewer : (s s′ : ℕ) → s ≤ s′ → (x y : ℕ) → setOf s′ x ≡ setOf s′ y → setOf s x ≡ setOf s y

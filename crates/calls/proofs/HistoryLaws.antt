@@ -6,16 +6,16 @@ use mathlib.Core.Bool.{Bool, true, false, cond, not, _||_}
 use mathlib.Core.List.{List, [], _∷_, _++_, append-assoc, append-nil}
 use native.Mathlib.Omega.{arith}
 use lib.Dec.{eqb, ltb}
-use lib.ListN.{length, take, drop, getD, replicate, length-append, length-replicate, length-drop, getD-replicate, List·getD-append}
-use lib.Seq.{ext-getD}
+use lib.ListN.{length, take, drop, getD}
 use borrow.Author.Tests.{eqb-false, ltb-false}
 use Rattle.lists.specs.Runs.{after, anyOn}
 use Rattle.lists.specs.Sums.{total}
-use Rattle.lists.specs.Tables.{part, zeroed}
+use Rattle.lists.specs.Tables.{zeroed}
 use Rattle.lists.specs.Tests.{All≤}
-use Rattle.lists.proofs.PartLaws.{row-in, length-part, part-at}
+use Rattle.lists.proofs.PartLaws.{row-in}
 use Rattle.lists.proofs.RunLaws.{after-append}
 use Rattle.lists.proofs.TestLaws.{none-first, any-not}
+use Rattle.lists.proofs.ZeroLaws.{length-zeroed, getD-zeroed, part-zeroed, zeros-at}
 use Rattle.cache.specs.Cache.{Given, referred, eventsOf}
 use Rattle.cache.proofs.GivenLaws.{events-one, referred-most}
 use Rattle.order.specs.declared.Order.{Order}
@@ -37,42 +37,24 @@ pub record History (w : World) (past : List Given) : Type 0 where
 
 -- ---- at the start
 
-zeros-at : (n i : ℕ) (l : List ℕ) → i < n → getD (zeroed n l) i 0 ≡ 0
-zeros-at n i l h =
-    List·getD-append (replicate n 0) (drop n l) 0 i (rw (length-replicate {A = ℕ} n 0) h) ∙ getD-replicate n i 0 0 h
-
-length-zeroed : (n : ℕ) (l : List ℕ) → n ≤ length l → length (zeroed n l) ≡ length l
-length-zeroed n l h = simp (length-append, length-replicate, length-drop) (omega arith)
-
-none-used : (n k : ℕ) → _≡_ {A = ℕ} (getD (replicate n 0) k 0) 0
-none-used zero k = refl
-none-used (suc n) zero = refl
-none-used (suc n) (suc k) = none-used n k
-
-part-zeroed : (base n m : ℕ) (l : List ℕ) → base + n ≤ m → m ≤ length l → part base n (zeroed m l) ≡ replicate n 0
-part-zeroed base n m l h f =
-    let long = length-part base n (zeroed m l) (omega (arith, length-zeroed m l f)) in
-    ext-getD 0 (part base n (zeroed m l)) (replicate n 0) (long ∙ sym (length-replicate {A = ℕ} n 0))
-    (λ i g. part-at base n (zeroed m l) i (omega arith) ∙ zeros-at m (base + i) l (omega arith) ∙ sym (getD-replicate n i 0 0 (omega arith)))
-
 pub history-start : (o : Order) (w : World) → All≤ (limits o) → stackNeed o ≤ length (w .stacks)
     → countNeed o ≤ length (w .counts) → History (opened o w) []
 history-start o w f long wide = record {
   fitted = record {
     fit = record {
       numbers = f;
-      long = rw (length-zeroed (stackNeed o) (w .stacks) long) long;
-      wide = rw (length-zeroed (countNeed o) (w .counts) wide) wide;
-      used = λ k h. omega (arith, none-used 8 k);
+      long = rw (length-zeroed (stackNeed o) (w .stacks)) long;
+      wide = rw (length-zeroed (countNeed o) (w .counts)) wide;
+      used = λ k h. omega (arith, zeros-at 8 k);
       ceiling = omega arith;
     };
     eight = refl;
   };
   size = λ k h.
       ap₂ (λ (q c : List ℕ). size 0 q c)
-      (ap (λ (n : ℕ). take n (drop (k * o .room) (zeroed (stackNeed o) (w .stacks)))) (none-used 8 k))
+      (ap (λ (n : ℕ). take n (drop (k * o .room) (zeroed (stackNeed o) (w .stacks)))) (zeros-at 8 k))
       (part-zeroed (k * span o) (span o) (countNeed o) (w .counts) (omega (arith, need-spans o, row-in k (sizes o) (span o) h)) wide);
-  blank = λ k j h g u. zeros-at (stackNeed o) (k * o .room + j) (w .stacks) (omega (arith, row-in k (sizes o) (o .room) h));
+  blank = λ k j h g u. getD-zeroed (stackNeed o) (k * o .room + j) (w .stacks) (omega (arith, row-in k (sizes o) (o .room) h));
 }
   where
     size : ℕ → List ℕ → List ℕ → Size

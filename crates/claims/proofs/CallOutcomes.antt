@@ -5,14 +5,13 @@ use mathlib.Core.Bool.{Bool, true, false, cond}
 use mathlib.Core.List.{List, [], _∷_, _++_}
 use native.Mathlib.Omega.{arith}
 use lib.Dec.{eqb, ltb}
-use lib.ListN.{length, drop, getD, replicate, length-replicate}
-use lib.Seq.{drop-at}
+use lib.ListN.{length, drop, getD}
 use borrow.Author.Tests.{eqb-true, eqb-false, ne-eqb}
 use Rattle.lists.specs.Members.{mem, Distinct}
 use Rattle.lists.specs.Sums.{total}
-use Rattle.lists.specs.Tables.{zeroed}
 use Rattle.lists.proofs.Cases.{cases}
 use Rattle.lists.proofs.TestLaws.{settled-done, settled-not}
+use Rattle.lists.proofs.ZeroLaws.{drop-zeroed}
 use Rattle.cache.specs.Cache.{Given, referred, eventsOf, missesOver}
 use Rattle.cache.specs.Stack.{isSeen, seenIn}
 use Rattle.cache.proofs.SeenLaws.{seen-is, no-repeats}
@@ -61,9 +60,6 @@ module _ (v : Opened) (ct : List ℕ) (b s n : ℕ) where
 abbrev pub Spared : Order → World → World → Type 0
 Spared o w w′ =
     (drop (stackNeed o) (w′ .stacks) ≡ drop (stackNeed o) (w .stacks)) × (drop (countNeed o) (w′ .counts) ≡ drop (countNeed o) (w .counts))
-
-drop-zeroed : (n : ℕ) (l : List ℕ) → drop n (zeroed n l) ≡ drop n l
-drop-zeroed n l = drop-at (replicate n 0) (drop n l) n (length-replicate {A = ℕ} n 0)
 
 pub opening-spares : {o : Order} {w : World} {n : ℕ} {w′ : World} → Opens o w n w′ → Spared o w w′
 opening-spares {o} {w} c =

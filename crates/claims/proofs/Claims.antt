@@ -31,14 +31,13 @@ use Rattle.calls.specs.Calls.{Call, Calls}
 use Rattle.calls.proofs.CallLaws.{call-refused, calls-there}
 use Rattle.strip.specs.declared.Stripped.{Stripped}
 use Rattle.strip.specs.Strip.{keptOf, stripLimits, Strips}
-use Rattle.strip.proofs.StripClaims.{left-is-kept, kept-as-before, dropped-hit, misses-same}
+use Rattle.strip.proofs.StripClaims.{strip-refused, strip-short, strip-untouched, left-is-kept, kept-as-before, dropped-hit, misses-same}
 use Rattle.reading.specs.Reading.{desk, Outcome, start}
 use Rattle.runs.specs.Input.{Runs, headerOf, traceOf, orderIn, givenOf}
 use Rattle.runs.specs.Endings.{inputEnding}
 use Rattle.runs.proofs.EndingLaws.{run-listed}
 use Rattle.runs.proofs.ProgramLaws.{program-answer, program-line, program-misses, program-refs, program-skipped}
 use Rattle.claims.proofs.CallOutcomes as outcomes
-use Rattle.claims.proofs.StripOutcomes as stripped
 
 -- ==== Demand 1: a refusal comes exactly in the case listed for it, returns its number, and leaves each lent table as listed
 
@@ -126,13 +125,13 @@ module _ (l : List ℕ) (b s : ℕ) (filter out : List ℕ) (r : Stripped) (filt
 
   -- refused: zero beside the number, and the output as it was; 13 leaves the first 2^s filter entries zero, and the others leave the filter
   pub demand-1-strip-refused : (r .answer ≡ 0 → ⊥) → (r .kept ≡ 0) × (out′ ≡ out)
-  demand-1-strip-refused = stripped.strip-refused strip
+  demand-1-strip-refused = strip-refused strip
 
   pub demand-1-strip-short : r .answer ≡ 13 → filter′ ≡ zeroed (2 ^ s) filter
-  demand-1-strip-short = stripped.strip-short strip
+  demand-1-strip-short = strip-short strip
 
   pub demand-1-strip-untouched : (r .answer ≡ 0 → ⊥) → (r .answer ≡ 13 → ⊥) → filter′ ≡ filter
-  demand-1-strip-untouched = stripped.strip-untouched strip
+  demand-1-strip-untouched = strip-untouched strip
 
 -- ---- the program, over every list of lines and any tables lent
 

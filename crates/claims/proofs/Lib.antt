@@ -1,3 +1,2 @@
 pub mod CallOutcomes
 pub mod Claims
-pub mod StripOutcomes

@@ -3,7 +3,9 @@ pub mod CutLaws
 pub mod DistinctLaws
 pub mod MemberLaws
 pub mod PartLaws
+pub mod PassLaws
 pub mod RaiseLaws
 pub mod RunLaws
 pub mod SumLaws
 pub mod TestLaws
+pub mod ZeroLaws

@@ -9,7 +9,8 @@ use native.Mathlib.Numerals.{add-one}
 use native.Mathlib.Omega.{arith}
 use lib.Dec.{eqb, ltb}
 use lib.ListN.{length, take, drop, getD, set, length-append, length-take, length-drop, length-set, take-append-drop, List·getD-append}
-use lib.Seq.{take-nil, drop-nil, length-take-le, take-append-seam, take-append-le, take-take, drop-append-add, drop-at, drop-drop, take-add, getD-take, getD-drop, getD-set-same, getD-set-other, getD-append-add, set-append-left}
+use lib.Seq.{take-nil, drop-nil, length-take-le, take-append-seam, take-append-le, take-take, drop-append-add, drop-at, drop-drop, take-add}
+use lib.Seq.{getD-take, getD-drop, getD-set-same, getD-set-other, getD-append-add, set-append-left}
 use borrow.Author.Tests.{eqb-true, eqb-false, ltb-true, ltb-false}
 use Rattle.lists.specs.Tables.{part, writeAt, writtenRows, setLengths}
 use Rattle.lists.proofs.Cases.{cases}

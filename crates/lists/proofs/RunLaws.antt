@@ -1,9 +1,11 @@
 -- Laws of machines run over a list: two machines that stay related, and lists of what was not dropped.
 -- Assumes nothing.
-use Prim.Native.Nat.{ℕ}
+use Prim.Native.Nat.{ℕ, _≤_}
 use mathlib.Core.Path.{_≡_, refl, sym, ap, ap₂, _∙_}
 use mathlib.Core.Bool.{Bool, true, false, cond, _||_}
 use mathlib.Core.List.{List, [], _∷_, _++_, map}
+use native.Mathlib.Omega.{arith}
+use lib.ListN.{length}
 use Rattle.lists.specs.Runs.{answers, after, anyOn, without, Each}
 use Rattle.lists.proofs.Cases.{cases}
 
@@ -63,3 +65,10 @@ without-map drop f (a ∷ r) [] = refl
 without-map drop f (a ∷ r) (x ∷ l) =
     let ih = without-map drop f r l in
     cases (drop a) (λ e. simp (e, ih)) (λ e. simp (e, ih))
+
+pub length-without : {O A : Type 0} (drop : O → Bool) (r : List O) (l : List A) → length (without drop r l) ≤ length l
+length-without drop [] l = omega arith
+length-without drop (a ∷ r) [] = omega arith
+length-without drop (a ∷ r) (x ∷ l) =
+    let ih = length-without drop r l in
+    cases (drop a) (λ e. simp e (omega arith)) (λ e. simp e (omega arith))

@@ -18,6 +18,11 @@ abbrev pub anyOn : {S E : Type 0} → (S → E → S) → (S → E → Bool) →
 anyOn step p s [] = false
 anyOn step p s (e ∷ es) = p s e || anyOn step p (step s e) es
 
+-- the things that do not pass the test, in the state that each meets
+abbrev pub leftOn : {S E : Type 0} → (S → E → S) → (S → E → Bool) → S → List E → List E
+leftOn step p s [] = []
+leftOn step p s (e ∷ es) = cond (p s e) (leftOn step p (step s e) es) (e ∷ leftOn step p (step s e) es)
+
 -- of a list of things and a list of answers, one each: the things whose answer does not pass the test
 abbrev pub without : {O A : Type 0} → (O → Bool) → List O → List A → List A
 without drop [] l = []

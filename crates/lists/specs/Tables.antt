@@ -7,9 +7,16 @@ use lib.Dec.{leb, ltb}
 use lib.ListN.{length, take, drop, getD, set, replicate}
 use Rattle.lists.specs.Tests.{anyTo}
 
--- the first n entries zero, the others as they were
+-- the first n entries zero, or all where there are fewer; the others as they were
 abbrev pub zeroed : ℕ → List ℕ → List ℕ
-zeroed n l = replicate n 0 ++ drop n l
+zeroed zero l = l
+zeroed (suc n) [] = []
+zeroed (suc n) (x ∷ l) = 0 ∷ zeroed n l
+
+-- f 0, f 1, .., f (n - 1)
+abbrev pub valuesTo : ℕ → (ℕ → ℕ) → List ℕ
+valuesTo zero f = []
+valuesTo (suc n) f = f 0 ∷ valuesTo n (λ i. f (suc i))
 
 -- n entries from a place on
 abbrev pub part : ℕ → ℕ → List ℕ → List ℕ

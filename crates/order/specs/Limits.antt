@@ -28,11 +28,21 @@ stackNeed o = sizes o * o .room
 abbrev pub countNeed : Order → ℕ
 countNeed o = sizes o * rows o * o .ways
 
+-- the exponents of a block size in bytes and of a number of sets, of an order and of a strip alike
+abbrev pub bLeast : ℕ
+bLeast = 2
+
+abbrev pub bMost : ℕ
+bMost = 12
+
+abbrev pub sMost : ℕ
+sMost = 14
+
 -- in each pair the first is at most the second
 abbrev pub limits : Order → List (ℕ × ℕ)
 limits o =
-    (2, o .bmin .0) ∷ (o .bmax .0, 12) ∷ (o .bmin .0, o .bmax .0) ∷ (sizes o, 8)
-    ∷ (o .smax, 14)
+    (bLeast, o .bmin .0) ∷ (o .bmax .0, bMost) ∷ (o .bmin .0, o .bmax .0) ∷ (sizes o, 8)
+    ∷ (o .smax, sMost)
     ∷ (1, o .ways) ∷ (o .ways, 16)
     ∷ (1, o .room) ∷ (o .room, 1048576)
     ∷ (1, o .refs) ∷ (o .refs, 4000000000)

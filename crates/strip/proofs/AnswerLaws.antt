@@ -8,13 +8,14 @@ use native.Mathlib.Omega.{arith}
 use lib.Dec.{ltb}
 use lib.ListN.{length, drop}
 use borrow.Author.Tests.{lt-ltb, le-ltb, ltb-false}
+use Rattle.lists.specs.Tables.{zeroed}
 use Rattle.lists.specs.Tests.{allLe, All≤}
+use Rattle.lists.proofs.ZeroLaws.{length-zeroed}
 use Rattle.units.specs.Refusals.{done, outsideLimits, shortFilter, shortOutput}
 use Rattle.strip.specs.declared.Stripped.{Stripped}
-use Rattle.lists.specs.Tables.{zeroed}
 use Rattle.strip.specs.Filter.{keptFrom, filterAfter, Passable, Keeps}
 use Rattle.strip.specs.Strip.{keptOf, stripLimits, Strips}
-use Rattle.strip.proofs.FilterLaws.{length-zeroed, kept-is, filter-is}
+use Rattle.strip.proofs.FilterLaws.{kept-is, filter-is}
 
 -- refused, with zero beside the number
 abbrev pub Refused : ℕ → Stripped → Type 0
@@ -51,8 +52,9 @@ module _ {l : List ℕ} {b s : ℕ} {table out : List ℕ} where
       }
 
 -- what the keeping pass asks, of the emptied filter t
-pub emptied-passable : {b s : ℕ} {t : List ℕ} (table : List ℕ) → t ≡ zeroed (2 ^ s) table → All≤ (stripLimits b s) → 2 ^ s ≤ length table → Passable b s t
-emptied-passable {s = s} table start f h = record { small = omega arith; wide = rw (start, length-zeroed (2 ^ s) table h) h }
+pub emptied-passable : {b s : ℕ} {t : List ℕ} (table : List ℕ) → t ≡ zeroed (2 ^ s) table → All≤ (stripLimits b s) → 2 ^ s ≤ length table
+    → Passable b s t
+emptied-passable {s = s} table start f h = record { small = omega arith; wide = rw (start, length-zeroed (2 ^ s) table) h }
 
 pub kept-fit : (b s : ℕ) (l table out t : List ℕ) → t ≡ zeroed (2 ^ s) table → 2 ^ s ≤ length table
     → ltb (length out) (length (keptOf b s l)) ≡ false → length (keptFrom b s t l) ≤ length out

@@ -1,11 +1,12 @@
--- Strip of document 01's worked trace, and what its "Mistakes a tester will try" would give: each is a computation.
+-- Strip of the worked trace (SCOPE, "The worked trace"), and what the mistakes of SCOPE, "Mistakes shut out", would give: each is a computation.
 -- Assumes nothing.
 use Prim.Native.Nat.{ℕ}
 use mathlib.Core.Path.{_≡_, refl}
 use mathlib.Core.List.{List, [], _∷_, map}
 use Rattle.lists.specs.Sums.{total}
+use Rattle.lists.specs.Tables.{valuesTo}
 use Rattle.cache.specs.Cache.{blockOf, setOf, Event, touch, hit, miss, missed, simulate, ref, missesOver}
-use Rattle.strip.specs.Strip.{keptOf, entryOf, valuesTo}
+use Rattle.strip.specs.Strip.{keptOf, entryOf}
 
 -- ---- the worked trace
 

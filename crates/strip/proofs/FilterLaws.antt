@@ -1,22 +1,23 @@
 -- The filter is the direct-mapped cache: what it keeps from empty on is `keptOf`, and its entries at the end are the last blocks.
 -- The idea: entry i tells set i whole, since that has at most one block. Assumes nothing.
-use Prim.Native.Nat.{ℕ, zero, suc, _+_, _^_, _≤_, _<_}
+use Prim.Native.Nat.{ℕ, zero, suc, _^_, _≤_, _<_}
 use mathlib.Core.Path.{_≡_, refl, sym, ap, ap₂, _∙_}
 use mathlib.Core.Bool.{Bool, true, false, cond}
 use mathlib.Core.List.{List, [], _∷_, _++_, map}
-use native.Mathlib.Nat.{mod-lt}
 use native.Mathlib.Omega.{arith}
 use lib.Dec.{eqb}
-use lib.ListN.{length, drop, getD, replicate, length-append, length-drop, length-set, length-replicate, getD-replicate, List·getD-append}
-use lib.Pow.{pow-pos}
-use lib.Seq.{getD-set-same, getD-set-other, drop-set-lt, drop-at}
+use lib.ListN.{length, drop, getD, length-set}
+use lib.Seq.{getD-set-same, getD-set-other, drop-set-lt}
 use borrow.Author.Tests.{eqb-true, eqb-false, eq-eqb, ne-eqb}
 use Rattle.lists.specs.Members.{mem, keep}
 use Rattle.lists.specs.Runs.{answers, after, without}
+use Rattle.lists.specs.Tables.{zeroed, valuesTo}
 use Rattle.lists.proofs.Cases.{cases}
+use Rattle.lists.proofs.RunLaws.{length-without}
+use Rattle.lists.proofs.ZeroLaws.{length-zeroed, drop-zeroed, getD-zeroed, zeroed-same, values-are}
 use Rattle.cache.specs.Cache.{blockOf, setOf, touch, isHit, Sets, emptySets, refer, cacheStep, cacheAnswer, simulate, touchesOf}
-use Rattle.strip.specs.Strip.{keptOf, lastPlusOne, entryOf, valuesTo}
-use Rattle.lists.specs.Tables.{zeroed}
+use Rattle.cache.proofs.SetLaws.{set-below}
+use Rattle.strip.specs.Strip.{keptOf, lastPlusOne, entryOf}
 use Rattle.strip.specs.Filter.{placeOf, isHeld, filterStep, keptFrom, filterAfter, Counts}
 
 -- ---- an entry and its set
@@ -37,10 +38,6 @@ mem-set-in x (suc y) =
 refer-set-in : (x e : ℕ) → refer 1 x (setIn e) ≡ x ∷ []
 refer-set-in x zero = refl
 refer-set-in x (suc y) = cases (eqb x y) (λ e. simp e) (λ e. simp e)
-
-pub set-below : (s x : ℕ) → setOf s x < 2 ^ s
-unfolding setOf
-set-below s x = mod-lt x (pow-pos s)
 
 -- ---- the table and the cache, step by step
 
@@ -73,7 +70,6 @@ mirrors-held b s a t c (wide, same) =
 
 kept-by : (b s : ℕ) (l t : List ℕ) (c : Sets) → Mirrors s t c
     → keptFrom b s t l ≡ without isHit (answers (cacheStep s 1) (cacheAnswer s) c (touchesOf b l)) l
-unfolding keptFrom
 kept-by b s [] t c m = refl
 kept-by b s (a ∷ l) t c m =
     ap₂ (λ (h : Bool) (k : List ℕ). cond h k (a ∷ k)) (mirrors-held b s a t c m)
@@ -81,27 +77,11 @@ kept-by b s (a ∷ l) t c m =
 
 -- ---- a filter that starts empty, whatever it held
 
-pub length-zeroed : (n : ℕ) (t : List ℕ) → n ≤ length t → length (zeroed n t) ≡ length t
-length-zeroed n t h = simp (length-append, length-replicate, length-drop) (omega arith)
-
-drop-zeroed : (n : ℕ) (t : List ℕ) → drop n (zeroed n t) ≡ drop n t
-drop-zeroed n t = drop-at (replicate n 0) (drop n t) n (length-replicate n 0)
-
-getD-zeroed : (n i : ℕ) (t : List ℕ) → i < n → getD (zeroed n t) i 0 ≡ 0
-getD-zeroed n i t l = List·getD-append (replicate n 0) (drop n t) 0 i (rw length-replicate l) ∙ getD-replicate n i 0 0 l
-
 -- THE LAW of what is kept: from an empty filter on, the references that miss in the direct-mapped cache
 pub kept-is : (b s : ℕ) (l t : List ℕ) → 2 ^ s ≤ length t → keptFrom b s (zeroed (2 ^ s) t) l ≡ keptOf b s l
 kept-is b s l t h =
     kept-by b s l (zeroed (2 ^ s) t) emptySets
-    (rw (length-zeroed (2 ^ s) t h) h, λ i below. ap setIn (sym (getD-zeroed (2 ^ s) i t below)))
-
-length-without : {O : Type 0} (drop : O → Bool) (r : List O) (l : List ℕ) → length (without drop r l) ≤ length l
-length-without drop [] l = omega arith
-length-without drop (a ∷ r) [] = omega arith
-length-without drop (a ∷ r) (x ∷ l) =
-    let ih = length-without drop r l in
-    cases (drop a) (λ e. simp e (omega arith)) (λ e. simp e (omega arith))
+    (rw (length-zeroed (2 ^ s) t) h, λ i below. ap setIn (sym (getD-zeroed (2 ^ s) i t below)))
 
 -- no more are kept than came
 pub length-kept : (b s : ℕ) (l : List ℕ) → length (keptOf b s l) ≤ length l
@@ -115,7 +95,6 @@ blocksOf b s i l = keep (λ x. eqb i (setOf s x)) (map (blockOf b) l)
 
 getD-after : (b s i : ℕ) → i < 2 ^ s → (l t : List ℕ) → 2 ^ s ≤ length t
     → getD (filterAfter b s t l) i 0 ≡ lastPlusOne (getD t i 0) (blocksOf b s i l)
-unfolding filterAfter
 getD-after b s i below [] t h = refl
 getD-after b s i below (a ∷ l) t h =
     let ih = getD-after b s i below l (filterStep b s t a) (simp length-set h) in
@@ -124,31 +103,25 @@ getD-after b s i below (a ∷ l) t h =
     (λ e. simp e (ih ∙ ap (λ (v : ℕ). lastPlusOne v (blocksOf b s i l)) (step-other b s a i t e)))
 
 length-after : (b s : ℕ) (l t : List ℕ) → length (filterAfter b s t l) ≡ length t
-unfolding filterAfter
 length-after b s [] t = refl
 length-after b s (a ∷ l) t = length-after b s l (filterStep b s t a) ∙ simp length-set
 
 drop-after : (b s : ℕ) (l t : List ℕ) → drop (2 ^ s) (filterAfter b s t l) ≡ drop (2 ^ s) t
-unfolding filterAfter
 drop-after b s [] t = refl
 drop-after b s (a ∷ l) t =
     drop-after b s l (filterStep b s t a) ∙ drop-set-lt (2 ^ s) t (placeOf b s a) (suc (blockOf b a)) (set-below s (blockOf b a))
-
--- a table by its first n entries
-values-are : (n : ℕ) (f : ℕ → ℕ) (t : List ℕ) → n ≤ length t → ((i : ℕ) → i < n → getD t i 0 ≡ f i) → t ≡ valuesTo n f ++ drop n t
-values-are zero f t h same = refl
-values-are (suc n) f [] h same = absurd (omega arith)
-values-are (suc n) f (x ∷ t) h same =
-    ap₂ _∷_ (same 0 (omega arith)) (values-are n (λ i. f (suc i)) t (omega arith) (λ i l. same (suc i) (omega arith)))
 
 -- THE LAW of the filter: from an empty one on, entry i is the last block of set i plus one, or zero
 pub filter-is : (b s : ℕ) (l t : List ℕ) → 2 ^ s ≤ length t
     → filterAfter b s (zeroed (2 ^ s) t) l ≡ valuesTo (2 ^ s) (entryOf b s l) ++ drop (2 ^ s) t
 filter-is b s l t h =
-    values-are (2 ^ s) (entryOf b s l) (filterAfter b s (zeroed (2 ^ s) t) l)
-    (rw (length-after b s l (zeroed (2 ^ s) t), length-zeroed (2 ^ s) t h) h)
-    (λ i below. getD-after b s i below l (zeroed (2 ^ s) t) (rw (length-zeroed (2 ^ s) t h) h) ∙ ap (λ (e : ℕ). lastPlusOne e (blocksOf b s i l)) (getD-zeroed (2 ^ s) i t below))
-    ∙ ap (valuesTo (2 ^ s) (entryOf b s l) ++_) (drop-after b s l (zeroed (2 ^ s) t) ∙ drop-zeroed (2 ^ s) t)
+    let n = 2 ^ s in
+    let empty = zeroed n t in
+    let long : n ≤ length empty = rw (length-zeroed n t) h in
+    let entries : (i : ℕ) → i < n → getD (filterAfter b s empty l) i 0 ≡ entryOf b s l i
+    = λ i below. getD-after b s i below l empty long ∙ ap (λ (e : ℕ). lastPlusOne e (blocksOf b s i l)) (getD-zeroed n i t below) in
+    values-are n (entryOf b s l) (filterAfter b s empty l) (rw (length-after b s l empty) long) entries
+    ∙ ap (valuesTo n (entryOf b s l) ++_) (drop-after b s l empty ∙ drop-zeroed n t)
 
 -- ---- the entries and the cache's sets
 
@@ -165,7 +138,8 @@ pub entry-is : (b s i : ℕ) (l : List ℕ) → after (cacheStep s 1) emptySets 
 entry-is b s i l = entry-after b s i l emptySets 0 refl
 
 -- so a block is in the set where the entry is its number plus one
-pub entry-test : (b s i : ℕ) (l : List ℕ) (x : ℕ) → mem x (after (cacheStep s 1) emptySets (touchesOf b l) i) ≡ eqb (entryOf b s l i) (suc x)
+pub entry-test : (b s i : ℕ) (l : List ℕ) (x : ℕ)
+    → mem x (after (cacheStep s 1) emptySets (touchesOf b l) i) ≡ eqb (entryOf b s l i) (suc x)
 entry-test b s i l x = ap (mem x) (entry-is b s i l) ∙ mem-set-in x (entryOf b s l i)
 
 -- ---- a counting pass from the emptied filter t on
@@ -177,5 +151,6 @@ module _ {b s : ℕ} {l t : List ℕ} {n : ℕ} {t′ : List ℕ} (p : Counts b 
   -- it can be emptied again
   pub zeroed-again : zeroed (2 ^ s) t′ ≡ zeroed (2 ^ s) table
   zeroed-again =
-      ap (replicate (2 ^ s) 0 ++_)
+      zeroed-same (2 ^ s) t′ table
+      (ap length (p .filter) ∙ length-after b s l t ∙ ap length start ∙ length-zeroed (2 ^ s) table)
       (ap (drop (2 ^ s)) (p .filter) ∙ drop-after b s l t ∙ ap (drop (2 ^ s)) start ∙ drop-zeroed (2 ^ s) table)

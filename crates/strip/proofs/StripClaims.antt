@@ -1,35 +1,53 @@
--- What a stripped list is good for (demand 3): over addresses, at one block size, for every list and every cache with at least as
--- many sets and one way or more. What is kept is `keptOf` itself, which any strip within its contract leaves. Assumes nothing.
-use Prim.Native.Nat.{ℕ, suc, _≤_}
-use mathlib.Core.Path.{_≡_, refl, sym, ap, ap₂, _∙_}
-use mathlib.Core.Bool.{cond}
-use mathlib.Core.List.{List, [], _∷_, _++_, map}
-use lib.Dec.{eqb}
+-- What any strip within its contract leaves, refused or done; and what a stripped list is good for (demand 3): over addresses, at one
+-- block size, for every list and every cache with at least as many sets and one way or more. Assumes nothing.
+use Prim.Native.Nat.{ℕ, suc, _^_, _≤_}
+use mathlib.Core.Path.{_≡_, sym, ap, ap₂, _∙_}
+use mathlib.Core.List.{List, map}
+use native.Mathlib.Omega.{arith}
 use lib.ListN.{length, take, drop}
 use lib.Seq.{take-append-seam}
+use borrow.Author.Tests.{ne-eqb}
 use Rattle.lists.specs.Runs.{without, Each}
 use Rattle.lists.specs.Sums.{total}
+use Rattle.lists.specs.Tables.{zeroed}
 use Rattle.lists.proofs.RunLaws.{without-map}
-use Rattle.cache.specs.Cache.{blockOf, Event, touch, ref, eventsOf, isHit, missed, simulate, touchesOf, missesOver}
+use Rattle.lists.proofs.TestLaws.{settled-done, settled-not}
+use Rattle.cache.specs.Cache.{blockOf, touch, ref, isHit, missed, simulate, touchesOf, missesOver}
 use Rattle.cache.proofs.InclusionLaws.{HitToo}
-use Rattle.cache.proofs.StripLaws.{strip-kept, strip-dropped, strip-misses}
-use Rattle.units.specs.Refusals.{done}
+use Rattle.cache.proofs.StripLaws.{events-refs, strip-kept, strip-dropped, strip-misses}
+use Rattle.units.specs.Refusals.{done, shortOutput}
 use Rattle.strip.specs.declared.Stripped.{Stripped}
-use Rattle.strip.specs.Strip.{keptOf, Strips}
+use Rattle.strip.specs.Strip.{keptOf, stripAnswer, Strips}
 
--- the references that `strip` leaves are exactly those that miss in the direct-mapped cache, in order
-pub left-is-kept : {l : List ℕ} {b s : ℕ} {table out : List ℕ} {r : Stripped} {table′ out′ : List ℕ}
-    → Strips l b s table out r table′ out′ → r .answer ≡ done → take (r .kept) out′ ≡ keptOf b s l
-left-is-kept {l} {b} {s} {table} {out} p a =
-    let e = sym (p .answer) ∙ a in
-    let many = p .kept ∙ ap (λ (n : ℕ). cond (eqb n done) (length (keptOf b s l)) 0) e in
-    let front = p .output ∙ ap (λ (n : ℕ). cond (eqb n done) (keptOf b s l ++ drop (length (keptOf b s l)) out) out) e in
-    ap₂ take many front ∙ take-append-seam (keptOf b s l) (drop (length (keptOf b s l)) out)
+-- ---- what any strip within its contract leaves
 
--- references to a list of addresses are its touches
-pub events-refs : (b : ℕ) (l : List ℕ) → eventsOf b (map ref l) ≡ touchesOf b l
-events-refs b [] = refl
-events-refs b (a ∷ l) = ap (λ (es : List Event). touch (blockOf b a) ∷ es) (events-refs b l)
+module _ {l : List ℕ} {b s : ℕ} {table out : List ℕ} {r : Stripped} {table′ out′ : List ℕ} (c : Strips l b s table out r table′ out′) where
+  -- refused: zero beside the number, and the output as it was
+  pub strip-refused : (r .answer ≡ done → ⊥) → (r .kept ≡ 0) × (out′ ≡ out)
+  strip-refused ne =
+      let refused : stripAnswer l b s table out ≡ 0 → ⊥ = λ z. ne (c .answer ∙ z) in
+      (c .kept ∙ settled-not (stripAnswer l b s table out) _ _ refused, c .output ∙ settled-not (stripAnswer l b s table out) _ _ refused)
+
+  -- with 13 the filter's first 2^s entries are zero, and with another number it is as it was
+  pub strip-short : r .answer ≡ shortOutput → table′ ≡ zeroed (2 ^ s) table
+  strip-short e =
+      let given = sym (c .answer) ∙ e in
+      c .filter ∙ settled-not (stripAnswer l b s table out) _ _ (λ z. omega arith) ∙ simp given
+
+  pub strip-untouched : (r .answer ≡ done → ⊥) → (r .answer ≡ shortOutput → ⊥) → table′ ≡ table
+  strip-untouched ne nf =
+      let other = ne-eqb (stripAnswer l b s table out) shortOutput (λ z. nf (c .answer ∙ z)) in
+      c .filter ∙ settled-not (stripAnswer l b s table out) _ _ (λ z. ne (c .answer ∙ z)) ∙ simp other
+
+  -- done: the references left are exactly those that miss in the direct-mapped cache, in order
+  pub left-is-kept : r .answer ≡ done → take (r .kept) out′ ≡ keptOf b s l
+  left-is-kept a =
+      let e = sym (c .answer) ∙ a in
+      let many = c .kept ∙ settled-done (stripAnswer l b s table out) _ _ e in
+      let front = c .output ∙ settled-done (stripAnswer l b s table out) _ _ e in
+      ap₂ take many front ∙ take-append-seam (keptOf b s l) (drop (length (keptOf b s l)) out)
+
+-- ---- what it is good for
 
 -- the touches of what is kept are what is kept of the touches
 touches-kept : (b s : ℕ) (l : List ℕ) → touchesOf b (keptOf b s l) ≡ without isHit (simulate s 1 (touchesOf b l)) (touchesOf b l)
@@ -37,7 +55,8 @@ touches-kept b s l = without-map isHit (λ a. touch (blockOf b a)) (simulate s 1
 
 module _ (b s s′ w : ℕ) (more : s ≤ s′) (l : List ℕ) where
   -- each kept reference hits or misses as it did in the full list
-  pub kept-as-before : simulate s′ (suc w) (touchesOf b (keptOf b s l)) ≡ without isHit (simulate s 1 (touchesOf b l)) (simulate s′ (suc w) (touchesOf b l))
+  pub kept-as-before : simulate s′ (suc w) (touchesOf b (keptOf b s l))
+      ≡ without isHit (simulate s 1 (touchesOf b l)) (simulate s′ (suc w) (touchesOf b l))
   kept-as-before = ap (simulate s′ (suc w)) (touches-kept b s l) ∙ strip-kept s s′ w more (touchesOf b l)
 
   -- each dropped one was a hit

@@ -1,18 +1,17 @@
 // The stripper: of a list of addresses it keeps those whose reference misses in a direct-mapped cache
-// (document 01, "Strip"). The lent filter is that cache: entry i is the last block of set i plus one,
+// (SCOPE, "Strip"). The lent filter is that cache: entry i is the last block of set i plus one,
 // or zero where none came.
+use lists::clear;
 use order::Order;
 use units::Addr;
 use units::ByteExp;
 use units::refusal;
 ghost use mathlib.Core.Path.{_≡_};
 ghost use Prim.Native.Nat.{_^_, _≤_, _<_};
-ghost use lib.Dec.{ltb};
 ghost use lib.ListN.{length};
 ghost use Rattle.lists.specs.Tests.{allLe};
-ghost use Rattle.lists.specs.Tables.{zeroed};
-ghost use Rattle.strip.specs.Filter.{keptFrom, Passable, Refers, Counts, Keeps};
-ghost use Rattle.strip.specs.Strip.{keptOf, stripLimits, Strips};
+ghost use Rattle.strip.specs.Filter.{keptFrom, Passable, Refers, Counts, Keeps, Empties};
+ghost use Rattle.strip.specs.Strip.{stripLimits, Strips};
 
 // How many references were kept, beside the answer number: 0 where that is not 0.
 pub struct Stripped {
@@ -71,25 +70,14 @@ fn sets_of(s: u32) -> usize
     1usize << s
 }
 
-// Empties the first n entries.
-fn clear(filter: &mut [u32], n: usize)
-    requires { ⌜ n ≤ length (now filter) ⌝ }
-    ensures { λ _. ⌜ now (filter .exit) ≡ zeroed n (now (filter .entry)) ⌝ }
-{
-    let mut i = 0;
-    while i < n {
-        filter[i] = 0;
-        i += 1;
-    }
-}
-
 // One reference: whether its block was the last of its set; from now on it is.
 fn refer(a: Addr, b: ByteExp, s: u32, filter: &mut [u32]) -> bool
     requires { ⌜ Passable (b .0) s (now filter) ⌝ }
     ensures { λ r. ⌜ Refers (b .0) s (a .0) (now (filter .entry)) r (now (filter .exit)) ⌝ }
 {
     let block = a.block(b);
-    let place = block.set(s).0 as usize;
+    let set = block.set(s);
+    let place = set.0 as usize;
     let entry = block.0 + 1;
     let held = filter[place] == entry;
     filter[place] = entry;
@@ -104,7 +92,8 @@ fn count(list: &[u32], b: ByteExp, s: u32, filter: &mut [u32]) -> usize
     let mut n: usize = 0;
     let mut i = 0;
     while i < list.len() {
-        if !refer(Addr(list[i]), b, s, filter) {
+        let a = Addr(list[i]);
+        if !refer(a, b, s, filter) {
             n += 1;
         }
         i += 1;
@@ -121,9 +110,9 @@ fn keep(list: &[u32], b: ByteExp, s: u32, filter: &mut [u32], out: &mut [u32]) -
     let mut n: usize = 0;
     let mut i = 0;
     while i < list.len() {
-        let a = list[i];
-        if !refer(Addr(a), b, s, filter) {
-            out[n] = a;
+        let a = Addr(list[i]);
+        if !refer(a, b, s, filter) {
+            out[n] = a.0;
             n += 1;
         }
         i += 1;
@@ -136,15 +125,14 @@ fn keep(list: &[u32], b: ByteExp, s: u32, filter: &mut [u32], out: &mut [u32]) -
 fn is_short(list: &[u32], b: ByteExp, s: u32, filter: &mut [u32], len: usize) -> bool
     requires { ⌜ s < 32 ⌝ }
     requires { ⌜ Passable (b .0) s (now filter) ⌝ }
-    ensures { λ r. ⌜ r ≡ ltb len (length (keptOf (b .0) s (now (list .entry)))) ⌝ }
-    ensures { λ _. ⌜ now (filter .exit) ≡ zeroed (2 ^ s) (now (filter .entry)) ⌝ }
+    ensures { λ r. ⌜ Empties (b .0) s (now (list .entry)) len (now (filter .entry)) r (now (filter .exit)) ⌝ }
 {
     let sets = sets_of(s);
-    clear(filter, sets);
+    clear(filter, sets); // whatever it held
     if list.len() <= len {
         return false;
     }
     let kept = count(list, b, s, filter);
-    clear(filter, sets);
+    clear(filter, sets); // of what was counted
     len < kept
 }

@@ -7,7 +7,7 @@ use counting::raise_all;
 use counting::raise_tops;
 use counting::summed;
 use counting::tops_over;
-use moving::clear;
+use lists::clear;
 use moving::is_full;
 use moving::move_all;
 use order::Order;

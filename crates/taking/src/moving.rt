@@ -5,21 +5,9 @@ ghost use mathlib.Core.List.{_∷_};
 ghost use lib.Dec.{leb};
 ghost use lib.ListN.{length, getD};
 ghost use Rattle.lists.specs.Members.{remove, above};
-ghost use Rattle.lists.specs.Tables.{part, writeAt, writtenRows, setLengths, zeroed};
+ghost use Rattle.lists.specs.Tables.{part, writeAt, writtenRows, setLengths};
 ghost use Rattle.lists.specs.Tests.{anyTo};
 ghost use Rattle.taking.specs.Parts.{Roomed, front, toppedBy};
-
-// Zeroes the first n entries.
-pub(crate) fn clear(table: &mut [u32], n: usize)
-    requires { ⌜ n ≤ length (now table) ⌝ }
-    ensures { λ _. ⌜ now (table .exit) ≡ zeroed n (now (table .entry)) ⌝ }
-{
-    let mut i = 0usize;
-    while i < n {
-        table[i] = 0;
-        i += 1;
-    }
-}
 
 // Some walk left at or past room: its block is new and its stack is full.
 pub(crate) fn is_full(places: &[u32], sizes: usize, room: u32) -> bool

@@ -1,66 +1,47 @@
 -- `strip::refer` meets its contract: the block's entry is looked at in its place, and put there. Assumes nothing.
-use borrow.Author.Needs.{needs}
 use Prim.Native.Nat.{_<_}
 use native.Mathlib.Omega.{arith}
 use lib.ListN.{length}
-use Rattle.strip.proofs.FilterLaws.{set-below}
+use borrow.Author.Needs.{needs}
+use Rattle.cache.proofs.SetLaws.{set-below}
 use Rattle.strip.proofs.PassLaws.{entry-fits, refer-is}
 use Rattle.strip.proofs.refer.Statement.{statement}
 use Rattle.strip.proofs.refer.Tie as tie
 
-block-requires : tie.Need-block-requires
-block-requires c κs = search needs
+abbrev start : tie.After-set → tie.Start
+start c = c .before .before .before
 
-set-requires : tie.Need-set-requires
-set-requires c κs = search needs
-
-cast-place : tie.Need-cast-place
-cast-place c = search needs
-
+-- a block number plus one fits 32 bits
 add-entry : tie.Need-add-entry
 add-entry c =
-    let a = c .before .before .before .before .before .args in
-    record { fits = rw (c .before .before .before .block .ensures) (entry-fits (a .b .0) (a .a .0) (c .before .before .before .before .before .pre .small) (omega arith)) }
+    let at-set = c .before .before in
+    let a = start at-set .args in
+    record { fits = rw (at-set .before .block .ensures) (entry-fits (a .b .0) (a .a .0) (start at-set .pre .small) (omega arith)) }
 
 -- the place is that of a set, and there are no more sets than entries
-inside : (c : tie.After-slice-known2) → c .before .before .before .set .result .0 < length (c .before .before .before .before .before .before .args .filter .now)
-inside c =
-    let a = c .before .before .before .before .before .before .args in
-    rw (c .before .before .before .set .ensures) (omega (arith, c .before .before .before .before .before .before .pre .wide, set-below (a .s) (c .before .before .before .before .block .result .0)))
-
-mul-held : tie.Need-mul-held
-mul-held c = search needs
-
-slice-read-held : tie.Need-slice-read-held
-slice-read-held c = inside c
-
-mul-filter : tie.Need-mul-filter
-mul-filter c = search needs
-
-slice-write-filter : tie.Need-slice-write-filter
-slice-write-filter c = inside c
-
-same-length : tie.Need-same-length
-same-length c = search needs
+inside : (c : tie.After-set) → c .set .result .0 < length (start c .args .filter .now)
+inside c = omega (arith, c .set .ensures, start c .pre .wide, set-below (start c .args .s) (c .before .block .result .0))
 
 returns : tie.Need-returns
 returns c =
-    let a = c .before .before .before .before .before .before .args in
-    let block = c .before .before .before .before .block in
-    let place = c .before .before .before .set in
-    refer-is (a .b .0) (a .s) (a .a .0) (a .filter .now) (block .result .0) (place .result .0) (block .ensures) (place .ensures)
+    let at-set = c .before .before .before in
+    let a = start at-set .args in
+    let x = at-set .before .block in
+    let place = at-set .set in
+    refer-is (a .b .0) (a .s) (a .a .0) (a .filter .now) (x .result .0) (place .result .0) (x .ensures) (place .ensures)
 
+-- closed by search
 pub refer-spec : {M : Type 1} → statement M
 refer-spec =
     tie.close
     (tie.spec
-    block-requires
-    set-requires
-    cast-place
+    (λ c κs. search needs)
+    (λ c κs. search needs)
+    (λ c. search needs)
     add-entry
-    mul-held
-    slice-read-held
-    mul-filter
-    slice-write-filter
-    same-length
+    (λ c. search needs)
+    (λ c. inside (c .before .before .before))
+    (λ c. search needs)
+    (λ c. inside (c .before .before .before))
+    (λ c. search needs)
     returns)
