@@ -1,11 +1,11 @@
 -- What given things are at one block size: their events one after the other, and how many touches they make. Assumes nothing.
 use Prim.Native.Nat.{ℕ, _+_, _≤_}
 use mathlib.Core.Path.{_≡_, refl, sym, ap, ap₂, _∙_}
-use mathlib.Core.List.{List, [], _∷_, _++_, append-assoc, append-nil}
+use mathlib.Core.List.{List, [], _∷_, _++_, append-assoc, append-nil, map}
 use native.Mathlib.Omega.{arith}
 use Rattle.lists.specs.Sums.{total}
 use Rattle.lists.proofs.SumLaws.{total-append}
-use Rattle.cache.specs.Cache.{Event, touched, Given, ref, referred, eventsAt, eventsOf}
+use Rattle.cache.specs.Cache.{blockOf, Event, touch, touched, Given, ref, referred, eventsAt, eventsOf, touchesOf}
 
 pub events-append : (b : ℕ) (l m : List Given) → eventsOf b (l ++ m) ≡ eventsOf b l ++ eventsOf b m
 events-append b [] m = refl
@@ -25,3 +25,8 @@ touches-all b (g ∷ l) = total-append touched (eventsAt b g) (eventsOf b l) ∙
 
 pub referred-most : (g : Given) → referred g ≤ 1
 referred-most (ref a) = omega arith
+
+-- each reference to an address is the touch of its block
+pub touches-are : (b : ℕ) (l : List ℕ) → touchesOf b l ≡ map (λ a. touch (blockOf b a)) l
+touches-are b [] = refl
+touches-are b (a ∷ l) = ap (λ (es : List Event). touch (blockOf b a) ∷ es) (touches-are b l)

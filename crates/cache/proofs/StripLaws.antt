@@ -16,15 +16,10 @@ use Rattle.lists.proofs.Cases.{cases}
 use Rattle.lists.proofs.MemberLaws.{first-keep}
 use Rattle.lists.proofs.RunLaws.{kept}
 use Rattle.cache.specs.Cache.{blockOf, setOf, Event, touch, Answer, hit, miss, missed, isHit, Sets, emptySets, cacheStep, cacheAnswer, simulate}
-use Rattle.cache.specs.Cache.{refer, ref, eventsOf, touchesOf}
+use Rattle.cache.specs.Cache.{refer}
 use Rattle.cache.proofs.SetLaws.{set-fewer}
 use Rattle.cache.proofs.StackLaws.{Holds}
 use Rattle.cache.proofs.InclusionLaws.{HitToo, Both, both-empty, both-step, inclusion}
-
--- references to a list of addresses are its touches
-pub events-refs : (b : ℕ) (l : List ℕ) → eventsOf b (map ref l) ≡ touchesOf b l
-events-refs b [] = refl
-events-refs b (a ∷ l) = ap (λ (es : List Event). touch (blockOf b a) ∷ es) (events-refs b l)
 
 -- a hit at the front of its set leaves the set as it is
 front-stays : (w x : ℕ) (r : List ℕ) → refer w x (x ∷ r) ≡ x ∷ r

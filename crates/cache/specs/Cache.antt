@@ -84,6 +84,6 @@ eventsOf b (g ∷ l) = eventsAt b g ++ eventsOf b l
 abbrev pub missesOver : ℕ → ℕ → ℕ → List Given → ℕ
 missesOver b s w l = total missed (simulate s w (eventsOf b l))
 
--- the touches of a list of addresses, at one block size
+-- the events of references to a list of addresses, as a strip is handed it
 abbrev pub touchesOf : ℕ → List ℕ → List Event
-touchesOf b l = map (λ a. touch (blockOf b a)) l
+touchesOf b l = eventsOf b (map ref l)

@@ -14,7 +14,8 @@ use Rattle.lists.proofs.RunLaws.{without-map}
 use Rattle.lists.proofs.TestLaws.{settled-done, settled-not}
 use Rattle.cache.specs.Cache.{blockOf, touch, ref, isHit, missed, simulate, touchesOf, missesOver}
 use Rattle.cache.proofs.InclusionLaws.{HitToo}
-use Rattle.cache.proofs.StripLaws.{events-refs, strip-kept, strip-dropped, strip-misses}
+use Rattle.cache.proofs.GivenLaws.{touches-are}
+use Rattle.cache.proofs.StripLaws.{strip-kept, strip-dropped, strip-misses}
 use Rattle.units.specs.Refusals.{done, shortOutput}
 use Rattle.strip.specs.declared.Stripped.{Stripped}
 use Rattle.strip.specs.Strip.{keptOf, stripAnswer, Strips}
@@ -51,7 +52,10 @@ module _ {l : List ℕ} {b s : ℕ} {table out : List ℕ} {r : Stripped} {table
 
 -- the touches of what is kept are what is kept of the touches
 touches-kept : (b s : ℕ) (l : List ℕ) → touchesOf b (keptOf b s l) ≡ without isHit (simulate s 1 (touchesOf b l)) (touchesOf b l)
-touches-kept b s l = without-map isHit (λ a. touch (blockOf b a)) (simulate s 1 (touchesOf b l)) l
+touches-kept b s l =
+    touches-are b (keptOf b s l)
+    ∙ without-map isHit (λ a. touch (blockOf b a)) (simulate s 1 (touchesOf b l)) l
+    ∙ ap (without isHit (simulate s 1 (touchesOf b l))) (sym (touches-are b l))
 
 module _ (b s s′ w : ℕ) (more : s ≤ s′) (l : List ℕ) where
   -- each kept reference hits or misses as it did in the full list
@@ -66,6 +70,4 @@ module _ (b s s′ w : ℕ) (more : s ≤ s′) (l : List ℕ) where
   -- so the misses are as many
   pub misses-same : missesOver b s′ (suc w) (map ref (keptOf b s l)) ≡ missesOver b s′ (suc w) (map ref l)
   misses-same =
-      ap (λ es. total missed (simulate s′ (suc w) es)) (events-refs b (keptOf b s l) ∙ touches-kept b s l)
-      ∙ strip-misses s s′ w more (touchesOf b l)
-      ∙ ap (λ es. total missed (simulate s′ (suc w) es)) (sym (events-refs b l))
+      ap (λ es. total missed (simulate s′ (suc w) es)) (touches-kept b s l) ∙ strip-misses s s′ w more (touchesOf b l)
