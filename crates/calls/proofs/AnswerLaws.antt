@@ -137,21 +137,8 @@ module _ (w : World) (past : List Given) (i : History w past) where
       here : sizeAt w (b - o .bmin .0) ≡ sizeOver o (eventsOf b past)
       here = i .size (b - o .bmin .0) in-sizes ∙ ap (λ (c : ℕ). sizeOver o (eventsOf c past)) same
 
-      -- the count for (b, s, d) where it stands in the table, and in the part of its size
-      stands : (d : ℕ) → d < n → getD (w .counts) (cell o (b - o .bmin .0) s d) 0 ≡ getD (sizeAt w (b - o .bmin .0) .counts) (s * o .ways + d) 0
-      stands d g =
-          let place : cell o (b - o .bmin .0) s d ≡ (b - o .bmin .0) * span o + (s * o .ways + d)
-          = place-is (b - o .bmin .0) (rows o) s (o .ways) d in
-          ap (λ (j : ℕ). getD (w .counts) j 0) place
-          ∙ sym (part-at ((b - o .bmin .0) * span o) (span o) (w .counts) (s * o .ways + d) (cell-in (o .ways) s (rows o) d in-rows (omega (arith, in-ways))))
-        where
-          place-is : (k r s v d : ℕ) → (k * r + s) * v + d ≡ k * (r * v) + (s * v + d)
-          place-is k r s v d = omega (arith, add-mul (k * r) s v, mul-assoc k r v)
-
       hits : hitsOf (w .state) (w .counts) b s n ≡ hitsIn o (sizeOver o (eventsOf b past) .counts) s n
-      hits =
-          sumTo-same (λ (d : ℕ). getD (w .counts) (cell o (b - o .bmin .0) s d) 0) (λ (d : ℕ). getD (sizeAt w (b - o .bmin .0) .counts) (s * o .ways + d) 0) n stands
-          ∙ ap (λ (z : Size). hitsIn o (z .counts) s n) here
+      hits = ap (λ (z : Size). hitsIn o (z .counts) s n) here
 
       few-hits : hitsOf (w .state) (w .counts) b s n ≤ w .state .taken
       few-hits = let t = ap (λ (z : Size). z .total) here in omega (arith, hits, size-hits o (eventsOf b past) s n in-rows in-ways, t)

@@ -1,3 +1,4 @@
+pub mod BoolLaws
 pub mod Cases
 pub mod CutLaws
 pub mod MemberLaws
@@ -6,3 +7,4 @@ pub mod RaiseLaws
 pub mod RunLaws
 pub mod SumLaws
 pub mod TestLaws
+pub mod TopRowLaws
