@@ -1,6 +1,6 @@
 -- Stacks of two block sizes over the same given things: that of the larger blocks is never the longer one.
 -- Assumes nothing.
-use Prim.Native.Nat.{ℕ, zero, suc, _+_, _/_, _^_, _≤_, _<_}
+use Prim.Native.Nat.{ℕ, zero, suc, _+_, _≤_, _<_}
 use mathlib.Core.Path.{_≡_, refl, sym, ap, _∙_, subst}
 use mathlib.Core.Bool.{Bool, true, false, cond, _||_, true≢false, false≢true, or-true}
 use mathlib.Core.List.{List, [], _∷_, map}
@@ -18,9 +18,9 @@ use Rattle.cache.specs.Cache.{blockOf, Event, touch, Given, ref, eventsA
 use Rattle.cache.specs.Stack.{stackStep}
 
 -- larger blocks are made of smaller ones
-pub block-larger : (b k a : ℕ) → blockOf (b + k) a ≡ blockOf b a / 2 ^ k
+pub block-wider : (b k a : ℕ) → blockOf (b + k) a ≡ blockOf k (blockOf b a)
 unfolding blockOf
-block-larger b k a = sym (shr-shr a b k)
+block-wider b k a = sym (shr-shr a b k)
 
 -- f takes the blocks of one stack to all blocks of the other, which is no longer
 abbrev Covers : (ℕ → ℕ) → List ℕ → List ℕ → Type 0
@@ -46,12 +46,12 @@ covers-step f x st st′ (m, n) = (held, long)
 -- what is given to both stacks, the one of blocks of 2^b bytes and the one of blocks 2^k times as large
 module _ (b k : ℕ) where
   abbrev larger : ℕ → ℕ
-  larger y = y / 2 ^ k
+  larger y = blockOf k y
 
   covers-given : (g : Given) (st st′ : List ℕ) → Covers larger st st′
       → Covers larger (after stackStep st (eventsAt b g)) (after stackStep st′ (eventsAt (b + k) g))
   covers-given (ref a) st st′ c =
-      subst (λ (y : ℕ). Covers larger (blockOf b a ∷ remove (blockOf b a) st) (y ∷ remove y st′)) (sym (block-larger b k a))
+      subst (λ (y : ℕ). Covers larger (blockOf b a ∷ remove (blockOf b a) st) (y ∷ remove y st′)) (sym (block-wider b k a))
       (covers-step larger (blockOf b a) st st′ c)
 
   covers-all : (l : List Given) (st st′ : List ℕ) → Covers larger st st′

@@ -21,7 +21,8 @@ use Rattle.cache.proofs.GivenLaws.{events-one, referred-most}
 use Rattle.order.specs.declared.Order.{Order}
 use Rattle.order.specs.Limits.{limits, within, sizes, span, stackNeed, countNeed}
 use Rattle.sizes.specs.Size.{Size, emptySize, sizeStep, isFull, isOver}
-use Rattle.sizes.proofs.SizeLaws.{need-spans, sizeOver, total-after, length-after, roomy-after}
+use Rattle.order.proofs.LimitLaws.{need-spans}
+use Rattle.sizes.proofs.SizeLaws.{sizeOver, total-after, length-after, roomy-after}
 use Rattle.taking.specs.Places.{usedOf}
 use Rattle.taking.specs.World.{World, world, sizeAt, withSizes}
 use Rattle.taking.specs.Opening.{opened}

@@ -1,27 +1,22 @@
 -- What the questions answer after an opening: 0 inside the order and 8 outside, 9 for ratios of nothing; the misses are those of each cache by
 -- itself, and the ratios are theirs. Assumes nothing.
-use Prim.Native.Nat.{ℕ, _+_, _-_, _*_, _≤_, _<_}
+use Prim.Native.Nat.{ℕ, _+_, _-_, _≤_, _<_}
 use mathlib.Core.Path.{_≡_, refl, sym, ap, ap₂, _∙_}
 use mathlib.Core.Bool.{Bool, true, false, cond, not}
 use mathlib.Core.List.{List, [], _∷_}
-use native.Mathlib.Nat.{add-mul, mul-assoc}
 use native.Mathlib.Omega.{arith}
 use lib.Dec.{eqb}
-use lib.ListN.{length, getD}
+use lib.ListN.{length}
 use borrow.Author.Tests.{le-ltb, ne-eqb}
 use Rattle.lists.specs.Tests.{All≤, firstOf}
 use Rattle.lists.proofs.Cases.{cases}
-use Rattle.lists.proofs.PartLaws.{part-at}
-use Rattle.lists.proofs.RaiseLaws.{cell-in}
-use Rattle.lists.proofs.SumLaws.{sumTo-same}
 use Rattle.lists.proofs.TestLaws.{all-yes, all-facts}
 use Rattle.cache.specs.Cache.{Given, eventsOf, missesOver}
 use Rattle.order.specs.declared.Order.{Order}
-use Rattle.order.specs.Limits.{limits, sizes, rows, span, countNeed}
+use Rattle.order.specs.Limits.{limits, sizes, rows, countNeed}
 use Rattle.sizes.specs.Size.{Size, hitsIn}
 use Rattle.sizes.proofs.SizeLaws.{sizeOver, size-misses, size-hits}
 use Rattle.taking.specs.declared.Counted.{Counted}
-use Rattle.taking.specs.Places.{cell}
 use Rattle.taking.specs.Questions.{asked, has, hitsOf, missesAnswer, missesOf}
 use Rattle.taking.specs.Ratios.{ratiosOf, ratiosAt, noRatios}
 use Rattle.taking.specs.World.{World, sizeAt}
@@ -62,24 +57,8 @@ module _ (w : World) (past : List Given) (i : History w past) (b s n : ℕ) wher
     here : sizeAt w (b - o .bmin .0) ≡ sizeOver o (eventsOf b past)
     here = i .size (b - o .bmin .0) in-sizes ∙ ap (λ (c : ℕ). sizeOver o (eventsOf c past)) same
 
-    -- the count for (b, s, d) where it stands in the table, and in the part of its size
-    stands : (d : ℕ) → d < n → getD (w .counts) (cell o (b - o .bmin .0) s d) 0 ≡ getD (sizeAt w (b - o .bmin .0) .counts) (s * o .ways + d) 0
-    stands d g =
-        let place : cell o (b - o .bmin .0) s d ≡ (b - o .bmin .0) * span o + (s * o .ways + d)
-        = place-is (b - o .bmin .0) (rows o) s (o .ways) d in
-        ap (λ (j : ℕ). getD (w .counts) j 0) place
-        ∙ sym
-        (part-at ((b - o .bmin .0) * span o) (span o) (w .counts) (s * o .ways + d)
-        (cell-in (o .ways) s (rows o) d in-rows (omega (arith, in-ways))))
-      where
-        place-is : (k r s v d : ℕ) → (k * r + s) * v + d ≡ k * (r * v) + (s * v + d)
-        place-is k r s v d = omega (arith, add-mul (k * r) s v, mul-assoc k r v)
-
     hits : hitsOf (w .state) (w .counts) b s n ≡ hitsIn o (sizeOver o (eventsOf b past) .counts) s n
-    hits =
-        sumTo-same (λ (d : ℕ). getD (w .counts) (cell o (b - o .bmin .0) s d) 0)
-        (λ (d : ℕ). getD (sizeAt w (b - o .bmin .0) .counts) (s * o .ways + d) 0) n stands
-        ∙ ap (λ (z : Size). hitsIn o (z .counts) s n) here
+    hits = ap (λ (z : Size). hitsIn o (z .counts) s n) here
 
     few-hits : hitsOf (w .state) (w .counts) b s n ≤ w .state .taken
     few-hits = let t = ap (λ (z : Size). z .total) here in omega (arith, hits, size-hits o (eventsOf b past) s n in-rows in-ways, t)

@@ -15,7 +15,7 @@ use Rattle.lists.proofs.PartLaws.{row-in, length-part, part-at, length-rows, dr
 use Rattle.order.specs.declared.Order.{Order}
 use Rattle.order.specs.Limits.{sizes, span, stackNeed, countNeed}
 use Rattle.sizes.specs.Size.{Size}
-use Rattle.sizes.proofs.SizeLaws.{need-spans}
+use Rattle.order.proofs.LimitLaws.{need-spans}
 use Rattle.taking.specs.Places.{usedOf}
 use Rattle.taking.specs.Parts.{Fit}
 use Rattle.taking.specs.World.{World, sizeAt, withSizes}

@@ -1,3 +1,4 @@
+pub mod BoolLaws
 pub mod Cases
 pub mod CutLaws
 pub mod DistinctLaws
@@ -8,4 +9,5 @@ pub mod RaiseLaws
 pub mod RunLaws
 pub mod SumLaws
 pub mod TestLaws
+pub mod TopRowLaws
 pub mod ZeroLaws

@@ -1,4 +1,4 @@
--- The limits of an order's numbers (document 01, "The order's numbers"), and what its constructor answers.
+-- The limits of an order's numbers (SCOPE, "The order's numbers"), and what its constructor answers.
 -- Assumes nothing.
 use Prim.Native.Nat.{ℕ, _-_, _+_, _*_}
 use mathlib.Core.Path.{_≡_}

@@ -1,9 +1,10 @@
-// The order: its numbers, their limits, and a constructor that checks them (document 01, "The order's
-// numbers").
+// The order: its numbers, their limits, a constructor that checks them, and what the numbers come to
+// (SCOPE, "The order's numbers").
 use units::ByteExp;
 use units::refusal;
 ghost use mathlib.Core.Path.{_≡_};
-ghost use Rattle.order.specs.Limits.{within, zeroOrder, Checks};
+ghost use mathlib.Core.Bool.{cond};
+ghost use Rattle.order.specs.Limits.{sizes as sizesOf, rows as rowsOf, span as spanOf, stackNeed, countNeed, within, zeroOrder, Checks};
 
 // What is asked for: block sizes of 2^bmin to 2^bmax bytes, 2^0 to 2^smax sets, 1 to `ways` ways; `room`
 // entries in each stack, and at most `refs` references.
@@ -29,10 +30,13 @@ impl Order {
     pub const B_MOST: u32 = 12;
 
     // "at most 8 block sizes"
-    pub const SIZES_MOST: u32 = 8;
+    pub const SIZES_MOST: usize = 8;
 
     // "smax from 0 to 14"
     pub const S_MOST: u32 = 14;
+
+    // every s from 0 to S_MOST
+    pub const ROWS_MOST: usize = 15;
 
     // "ways from 1 to 16"
     pub const WAYS_LEAST: u32 = 1;
@@ -48,6 +52,49 @@ impl Order {
     pub const REFS_LEAST: u32 = 1;
 
     pub const REFS_MOST: u32 = 4000000000;
+
+    // How many block sizes: bmin to bmax.
+    pub fn sizes(self) -> usize
+        ensures { λ r. ⌜ r ≡ sizesOf self ⌝ }
+    {
+        let least = self.bmin.0 as usize;
+        let past = self.bmax.0 as usize + 1;
+        if past > least {
+            return past - least;
+        }
+        1
+    }
+
+    // How many s: 0 to smax.
+    pub fn rows(self) -> usize
+        ensures { λ r. ⌜ r ≡ rowsOf self ⌝ }
+    {
+        self.smax as usize + 1
+    }
+
+    // The counts of one block size: for each s, one for each depth below `ways`.
+    pub fn span(self) -> usize
+        ensures { λ r. ⌜ r ≡ spanOf self ⌝ }
+    {
+        self.rows() * self.ways as usize
+    }
+
+    // How many entries the stack table needs.
+    pub fn stack_need(self) -> usize
+        ensures { λ r. ⌜ r ≡ stackNeed self ⌝ }
+    {
+        self.sizes() * self.room as usize
+    }
+
+    // How many entries the count table needs; 0 outside the limits, where the product may pass 64 bits.
+    pub fn count_need(self) -> usize
+        ensures { λ r. ⌜ r ≡ cond (within self) (countNeed self) 0 ⌝ }
+    {
+        if !self.is_within() {
+            return 0;
+        }
+        self.sizes() * self.span()
+    }
 
     // Every number is within its limits.
     pub fn is_within(self) -> bool
@@ -68,7 +115,7 @@ impl Order {
         if bmin > bmax {
             return false;
         }
-        if bmax - bmin >= Order::SIZES_MOST {
+        if (bmax - bmin) as usize >= Order::SIZES_MOST {
             return false;
         }
         if smax > Order::S_MOST {

@@ -2,9 +2,9 @@
 -- are those of each cache by itself, and no count is ever over. Assumes nothing.
 use Prim.Native.Nat.{ℕ, zero, suc, _+_, _-_, _*_, _≤_, _<_}
 use mathlib.Core.Path.{_≡_, refl, sym, ap, ap₂, _∙_}
-use mathlib.Core.Bool.{Bool, true, false, cond, _&&_, _||_, true≢false}
+use mathlib.Core.Bool.{Bool, true, false, cond, _&&_}
 use mathlib.Core.List.{List, [], _∷_}
-use native.Mathlib.Nat.{zero-add, mul-assoc}
+use native.Mathlib.Nat.{zero-add}
 use native.Mathlib.Omega.{arith}
 use lib.Dec.{eqb, ltb, leb}
 use lib.ListN.{length, getD, replicate, length-replicate, getD-replicate}
@@ -14,6 +14,7 @@ use Rattle.lists.specs.Runs.{answers, after, anyOn}
 use Rattle.lists.specs.Sums.{total, sumTo}
 use Rattle.lists.specs.Tables.{raisedRows, overRow}
 use Rattle.lists.specs.Tests.{anyTo}
+use Rattle.lists.proofs.BoolLaws.{or-none}
 use Rattle.lists.proofs.Cases.{cases}
 use Rattle.lists.proofs.RaiseLaws.{cell-in, length-raised, raised-at}
 use Rattle.lists.proofs.SumLaws.{sumTo-same}
@@ -22,16 +23,8 @@ use Rattle.cache.specs.Cache.{Event, touch, touched, missed, simulate}
 use Rattle.cache.specs.Stack.{stackStep, stackPlace, depth, places, atDepth}
 use Rattle.cache.proofs.CountLaws.{misses-by-depth, hits-fit, fewer, place-count}
 use Rattle.order.specs.declared.Order.{Order}
-use Rattle.order.specs.Limits.{sizes, rows, span, countNeed}
+use Rattle.order.specs.Limits.{rows, span}
 use Rattle.sizes.specs.Size.{Size, emptySize, countsStep, sizeStep, isFull, isOver, hitsIn}
-
-or-none : (a b : Bool) → (a || b) ≡ false → (a ≡ false) × (b ≡ false)
-or-none true b e = absurd (true≢false e)
-or-none false b e = (refl, e)
-
--- the counts an order needs, by block size
-pub need-spans : (o : Order) → countNeed o ≡ sizes o * span o
-need-spans o = mul-assoc (sizes o) (rows o) (o .ways)
 
 module _ (o : Order) where
   -- ---- one event

@@ -1,4 +1,4 @@
--- One block size by itself (document 01, "The stack and the counts"): what it holds, what one event makes of that, and what has to be seen before.
+-- One block size by itself (SCOPE, "The stack and the counts"): what it holds, what one event makes of that, and what has to be seen before.
 -- Assumes nothing.
 use Prim.Native.Nat.{ℕ, _+_, _*_}
 use mathlib.Core.Bool.{Bool, cond, _&&_}

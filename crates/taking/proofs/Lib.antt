@@ -4,6 +4,7 @@ pub mod MoveLaws
 pub mod NeedLaws
 pub mod OpeningLaws
 pub mod OutcomeLaws
+pub mod QuestionLaws
 pub mod RatioExamples
 pub mod RatioLaws
 pub mod RoundingLaws

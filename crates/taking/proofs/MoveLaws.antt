@@ -15,11 +15,7 @@ use Rattle.lists.specs.Tables.{part, writeAt, writtenRows}
 use Rattle.lists.proofs.Cases.{cases}
 use Rattle.lists.proofs.MemberLaws.{length-front, ltb·zero-suc}
 use Rattle.lists.proofs.PartLaws.{drop-rows}
-use Rattle.cache.specs.Cache.{blockOf}
-use Rattle.order.specs.Limits.{sizes}
-use Rattle.taking.specs.Plain.{topped}
-use Rattle.taking.specs.Parts.{front, toppedBy, Roomed}
-use Rattle.taking.specs.declared.Opened.{Opened}
+use Rattle.taking.specs.Parts.{front, toppedAt, toppedBy, Roomed}
 
 -- ---- the turns
 
@@ -132,22 +128,23 @@ module _ (base used x : ℕ) (l : List ℕ) (inside : base + used ≤ length l) 
 pub topped-le : (x room : ℕ) (q : List ℕ) → length (above x q) < room → length q ≤ room → length (x ∷ remove x q) ≤ room
 topped-le x room q h f =
     rw (length-front x q)
-    (cases (mem x q) (λ e. simp e f) (λ e. let g = ltb-false (length (above x q)) (length q) (sym (mem-above x q) ∙ e) in simp e (omega arith)))
+    (cases (mem x q)
+    (λ e. simp e f)
+    (λ e. let g = ltb-false (length (above x q)) (length q) (sym (mem-above x q) ∙ e) in simp e (omega arith)))
 
--- every stack has room for its block
-abbrev pub Roomy : Opened → List ℕ → ℕ → Type 0
-Roomy v st a = (k : ℕ) → k < sizes (v .order) → length (topped v st a k) ≤ v .order .room
-
--- the same from plain numbers, where each walk left below room
-module _ (room bmin n : ℕ) (st us ps : List ℕ) (a : ℕ) (left : Roomed n room bmin st us ps a) where
-  pub roomy-of : (k : ℕ) → k < n → length (toppedBy room bmin st us a k) ≤ room
+module _ (n room : ℕ) (x : ℕ → ℕ) (st us ps : List ℕ) (left : Roomed n room x st us ps) where
+  pub roomy-of : (k : ℕ) → k < n → length (toppedBy room x st us k) ≤ room
   roomy-of k h =
       let q = part (k * room) (getD us k 0) st in
-      topped-le (blockOf (bmin + k) a) room q (rw (← left k h .2) (left k h .1)) (omega (arith, length-take (getD us k 0) (drop (k * room) st), left k h .0))
+      topped-le (x k) room q (rw (← left .place k h) (left .below k h))
+      (omega (arith, length-take (getD us k 0) (drop (k * room) st), left .used k h))
 
   -- what the loop finds at size k, after the stacks before it have changed: the stack as it was
-  pub part-same : n * room ≤ length st → (k : ℕ) → k < n → (t : List ℕ) → t ≡ writtenRows room (toppedBy room bmin st us a) k st
-      → (u : ℕ) → u ≡ getD us k 0 → part (k * room) u t ≡ part (k * room) (getD us k 0) st
-  part-same need k h t e u eu =
-      ap (λ (m : ℕ). part (k * room) m t) eu
-      ∙ ap (take (getD us k 0)) (ap (drop (k * room)) e ∙ drop-rows room (toppedBy room bmin st us a) st n need roomy-of k (omega arith))
+  module _ (k : ℕ) (h : k < n) (t : List ℕ) (e : t ≡ writtenRows room (toppedBy room x st us) k st) (u : ℕ) (eu : u ≡ getD us k 0) where
+    pub part-same : part (k * room) u t ≡ part (k * room) (getD us k 0) st
+    part-same =
+        ap (λ (m : ℕ). part (k * room) m t) eu
+        ∙ ap (take (getD us k 0)) (ap (drop (k * room)) e ∙ drop-rows room (toppedBy room x st us) st n (left .long) roomy-of k (omega arith))
+
+    pub topped-same : toppedAt (k * room) u (x k) t ≡ toppedBy room x st us k
+    topped-same = ap (λ (q : List ℕ). x k ∷ remove (x k) q) part-same

@@ -1,56 +1,55 @@
--- What an order within its limits needs of its tables, and what its limits say of a state.
+-- What refusals 1 to 5 leave of a state and its tables, what that says of the tables' parts, and back.
 -- Assumes nothing.
 use Prim.Native.Nat.{ℕ, _+_, _*_, _≤_, _<_}
 use mathlib.Core.Path.{_≡_, refl, sym, _∙_}
-use mathlib.Core.Bool.{Bool, true, false, cond, not, _||_, true≢false}
+use mathlib.Core.Bool.{Bool, true, false, cond, not}
+use mathlib.Core.List.{List}
 use lib.ListN.{length}
 use native.Mathlib.Nat.{mul-le-mul}
 use native.Mathlib.Omega.{arith}
 use lib.Dec.{eqb, ltb}
-use borrow.Author.Tests.{not-true, not-false, ltb-false, le-ltb, eqb-false}
+use borrow.Author.Tests.{not-false, ltb-false, lt-ltb, le-ltb, eqb-false}
 use Rattle.lists.specs.Tests.{All≤, anyTo}
+use Rattle.lists.proofs.BoolLaws.{or-none, or-both}
 use Rattle.lists.proofs.PartLaws.{row-in, rows-le}
 use Rattle.lists.proofs.TestLaws.{all-facts, all-yes, none-first, any-not, any-none-of}
-use Rattle.order.specs.declared.Order.{Order}
+use Rattle.order.proofs.LimitLaws.{needs-small}
 use Rattle.order.specs.Limits.{limits, within, sizes, rows, stackNeed, countNeed}
 use Rattle.taking.specs.Places.{usedOf}
 use Rattle.taking.specs.Taking.{isForeign, someSize, takeAnswer}
 use Rattle.taking.specs.World.{World}
 use Rattle.sizes.specs.Size.{isFull, isOver}
 use Rattle.cache.specs.Cache.{Given}
-use Rattle.taking.specs.Parts.{earlyAnswer, Fit, Grid}
+use Rattle.taking.specs.Parts.{earlyAnswer, Fit, Grid, Rows, Tabled}
 use Rattle.taking.specs.declared.Opened.{Opened}
 
--- the answer r of `is_within`, tested by `!`
-pub within-yes : (o : Order) (r : Bool) → r ≡ within o → not r ≡ false → All≤ (limits o)
-within-yes o r e h = all-facts (limits o) (sym e ∙ not-false r h)
+-- a table of n entries, compared with a need m that was computed as r
+pub short-of : {n r m : ℕ} → r ≡ m → n < r → ltb n m ≡ true
+short-of {n} {r} {m} e h = lt-ltb n m (omega arith)
 
-pub within-no : (o : Order) (r : Bool) → r ≡ within o → not r ≡ true → within o ≡ false
-within-no o r e h = sym e ∙ not-true r h
-
-pub within-test : (o : Order) (r : Bool) → r ≡ within o → not r ≡ false → within o ≡ true
-within-test o r e h = sym e ∙ not-false r h
-
-pub needs-small : (o : Order) → All≤ (limits o) → (stackNeed o ≤ 8388608) × (sizes o * rows o ≤ 120) × (countNeed o ≤ 1920)
-needs-small o f = (mul-le-mul {n₂ = 8} {m₂ = 1048576} few (omega (arith, f)), groups, mul-le-mul {n₂ = 120} {m₂ = 16} groups (omega (arith, f)))
-  where
-    few : sizes o ≤ 8
-    few = omega (arith, f)
-
-    groups : sizes o * rows o ≤ 120
-    groups = mul-le-mul {n₂ = 8} {m₂ = 15} few (omega (arith, f))
+pub long-of : {n r m : ℕ} → r ≡ m → r ≤ n → ltb n m ≡ false
+long-of {n} {r} {m} e h = le-ltb n m (omega arith)
 
 -- all rows of an order that fits
 pub needs-few : (v : Opened) (n m : ℕ) → Fit v n m → sizes (v .order) * rows (v .order) ≤ 120
-needs-few v n m f = mul-le-mul {n₁ = sizes (v .order)} {m₁ = rows (v .order)} {n₂ = 8} {m₂ = 15} (omega (arith, f .numbers)) (omega (arith, f .numbers))
+needs-few v n m f = needs-small (v .order) (f .numbers) .rows
 
 -- the rows of group k, in a table that has room for all
 module _ (n r w m k : ℕ) (g : Grid n r w m) (h : k < n) where
   pub rows-small : k * r + r ≤ 120
-  rows-small = omega (arith, row-in k n r h, mul-le-mul {n₁ = n} {m₁ = r} {n₂ = 8} {m₂ = 15} (g .0) (g .1))
+  rows-small = omega (arith, row-in k n r h, mul-le-mul {n₁ = n} {m₁ = r} {n₂ = 8} {m₂ = 15} (g .sizes) (g .rows))
 
   pub rows-fit : (k * r + r) * w ≤ m
-  rows-fit = omega (arith, rows-le (k * r + r) (n * r) w (row-in k n r h), g .3)
+  rows-fit = omega (arith, rows-le (k * r + r) (n * r) w (row-in k n r h), g .inside)
+
+-- and so its rows, with their depths
+pub rows-of : (n r w m k : ℕ) (us ps ds : List ℕ) → Tabled n r w m us ps ds → k < n → Rows (k * r) r w m (k * 15) ds
+rows-of n r w m k us ps ds t h = record {
+  inside = rows-fit n r w m k (t .grid) h;
+  some = t .grid .some;
+  depths = omega (arith, t .grid, t .depths);
+  falling = t .falling k h;
+}
 
 -- the stack of size k, in the table of an order that fits
 pub stack-fits : (v : Opened) (n m k : ℕ) → Fit v n m → k < sizes (v .order) → k * v .order .room + v .order .room ≤ n
@@ -58,11 +57,12 @@ stack-fits v n m k f h = omega (arith, row-in k (sizes (v .order)) (v .order .ro
 
 -- the counts of an order that fits
 pub grid-of : (v : Opened) (n m : ℕ) → Fit v n m → Grid (sizes (v .order)) (rows (v .order)) (v .order .ways) m
-grid-of v n m f = (omega (arith, f .numbers), omega (arith, f .numbers), omega (arith, f .numbers), f .wide)
-
-or-none : (a b : Bool) → (a || b) ≡ false → (a ≡ false) × (b ≡ false)
-or-none true b e = absurd (true≢false e)
-or-none false b e = (refl, e)
+grid-of v n m f = record {
+  sizes = omega (arith, f .numbers);
+  rows = omega (arith, f .numbers);
+  some = omega (arith, f .numbers);
+  inside = f .wide;
+}
 
 -- what refusals 1 to 5 leave
 pub fit-of : (v : Opened) (n m : ℕ) → earlyAnswer v n m ≡ 0 → Fit v n m × (v .taken < v .order .refs)
@@ -79,7 +79,8 @@ fit-of v n m e =
       numbers = all-facts (limits (v .order)) (not-false (within (v .order)) (first .0));
       long = ltb-false n (stackNeed (v .order)) (second .0);
       wide = ltb-false m (countNeed (v .order)) (third .0);
-      used = λ k h. ltb-false (v .order .room) (usedOf v k) (any-not (sizes (v .order)) (λ (k : ℕ). ltb (v .order .room) (usedOf v k)) (own .0) k h);
+      used =
+          λ k h. ltb-false (v .order .room) (usedOf v k) (any-not (sizes (v .order)) (λ (k : ℕ). ltb (v .order .room) (usedOf v k)) (own .0) k h);
       ceiling = below;
     } in
     (fit, omega (arith, less))
@@ -93,9 +94,6 @@ pub fit-tops : (v : Opened) (n m : ℕ) → Fit v n m → Fit v (stackNeed (v .o
 fit-tops v n m f = record { numbers = f .numbers; long = omega arith; wide = f .wide; used = f .used; ceiling = f .ceiling }
 
 -- and back: none of 1 to 4 applies where the state fits, and 5 not below refs
-or-both : (a b : Bool) → a ≡ false → b ≡ false → (a || b) ≡ false
-or-both a b e f = simp (e, f)
-
 pub own-of : (v : Opened) (n m : ℕ) → Fit v n m → isForeign v ≡ false
 own-of v n m f =
     or-both (anyTo (sizes (v .order)) (λ (k : ℕ). ltb (v .order .room) (usedOf v k))) (ltb (v .order .refs) (v .taken))

@@ -1,8 +1,8 @@
 -- From what the walks found to the outcome of a taking: the code's tests are the page's, and the answer decides the rest.
 -- Assumes nothing.
 use Prim.Native.Nat.{ℕ, zero, suc, _+_, _*_, _≤_, _<_}
-use mathlib.Core.Path.{_≡_, refl, sym, ap, ap₂, _∙_}
-use mathlib.Core.Bool.{Bool, true, false, cond, not, _&&_, false≢true}
+use mathlib.Core.Path.{_≡_, refl, sym, ap, ap₂, fun-ext, _∙_}
+use mathlib.Core.Bool.{Bool, true, false, cond, not, _&&_}
 use mathlib.Core.List.{List}
 use native.Mathlib.Omega.{arith}
 use lib.Dec.{eqb, ltb, leb}
@@ -11,11 +11,13 @@ use borrow.Author.Tests.{eq-eqb, ne-eqb, ltb-true, lt-ltb, leb-false, lt-leb}
 use Rattle.lists.specs.Members.{above}
 use Rattle.lists.specs.Tables.{overRow, overGroups, raisedGroups}
 use Rattle.lists.specs.Tests.{anyTo}
+use Rattle.lists.proofs.BoolLaws.{and-false-of}
 use Rattle.lists.proofs.Cases.{cases}
 use Rattle.lists.proofs.MemberLaws.{absent-above}
 use Rattle.lists.proofs.RaiseLaws.{groups-same}
 use Rattle.lists.proofs.TestLaws.{settled-done, settled-not, any-same, any-not}
-use Rattle.cache.specs.Cache.{ref}
+use Rattle.cache.specs.Cache.{blockOf, ref}
+use Rattle.cache.proofs.SizeLaws.{block-wider}
 use Rattle.order.specs.Limits.{sizes, within, rows, stackNeed, countNeed}
 use Rattle.taking.specs.Places.{usedOf, stackAt, blockAt, foundAt, depthAt}
 use Rattle.taking.specs.Plain.{fullAt, overAll, stateDone, stacksDone, countsDone}
@@ -24,57 +26,70 @@ use Rattle.taking.specs.World.{world}
 use Rattle.sizes.specs.Size.{isFull, isOver}
 use Rattle.taking.proofs.NeedLaws.{answer-by-sizes}
 use Rattle.taking.proofs.TakenLaws.{full-each, over-each, taken-is}
-use Rattle.taking.specs.Parts.{earlyAnswer, Fit, Looked, foundBy, deepBy, Falling, Raisable, Roomed}
+use Rattle.taking.specs.Parts.{earlyAnswer, Fit, widerBy, Looked, foundBy, deepBy, Falling, countMost, AllRaisable, Roomed}
 use Rattle.taking.specs.declared.Opened.{Opened}
 use Rattle.taking.proofs.LookLaws.{length-stack, depth-falls}
 use Rattle.taking.proofs.MoveLaws.{mem-above}
 
-module _ (v : Opened) (st : List ℕ) (a m : ℕ) (ps ds : List ℕ) (f : Fit v (length st) m) (seen : Looked v st a ps ds) where
-  same-found : (k : ℕ) → k < sizes (v .order) → foundBy (v .used) ps k ≡ foundAt v st a k
+module _ (v : Opened) (st : List ℕ) (x : ℕ → ℕ) (m : ℕ) (ps ds : List ℕ) (f : Fit v (length st) m) (seen : Looked v st x ps ds) where
+  same-found : (k : ℕ) → k < sizes (v .order) → foundBy (v .used) ps k ≡ foundAt v st x k
   same-found k h =
       ap (λ (n : ℕ). ltb n (usedOf v k)) (seen .place k h)
-      ∙ ap (ltb (length (above (blockAt v a k) (stackAt v st k)))) (sym (length-stack v st m k f h))
-      ∙ sym (mem-above (blockAt v a k) (stackAt v st k))
+      ∙ ap (ltb (length (above (x k) (stackAt v st k)))) (sym (length-stack v st m k f h))
+      ∙ sym (mem-above (x k) (stackAt v st k))
 
-  same-full : (k : ℕ) → k < sizes (v .order) → leb (v .order .room) (getD ps k 0) ≡ fullAt v st a k
+  same-full : (k : ℕ) → k < sizes (v .order) → leb (v .order .room) (getD ps k 0) ≡ fullAt v st x k
   same-full k h =
-      cases (foundAt v st a k)
+      cases (foundAt v st x k)
       (λ e.
       let left = ltb-true (getD ps k 0) (usedOf v k) (same-found k h ∙ e) in
       simp e (lt-leb (v .order .room) (getD ps k 0) (omega (arith, f .used k h))))
       (λ e.
-      let up = ap length (absent-above (blockAt v a k) (stackAt v st k) e) in
+      let up = ap length (absent-above (x k) (stackAt v st k) e) in
       let left : getD ps k 0 ≡ usedOf v k = seen .place k h ∙ up ∙ length-stack v st m k f h in
       simp e (ap (leb (v .order .room)) left))
 
-  pub full-is : anyTo (sizes (v .order)) (λ (k : ℕ). leb (v .order .room) (getD ps k 0)) ≡ anyTo (sizes (v .order)) (fullAt v st a)
-  full-is = any-same (sizes (v .order)) (λ (k : ℕ). leb (v .order .room) (getD ps k 0)) (fullAt v st a) same-full
+  pub full-is : anyTo (sizes (v .order)) (λ (k : ℕ). leb (v .order .room) (getD ps k 0)) ≡ anyTo (sizes (v .order)) (fullAt v st x)
+  full-is = any-same (sizes (v .order)) (λ (k : ℕ). leb (v .order .room) (getD ps k 0)) (fullAt v st x) same-full
 
-  pub over-is : (ct : List ℕ) → overGroups (v .order .ways) (rows (v .order)) (foundBy (v .used) ps) (deepBy ds) (v .taken) (sizes (v .order)) ct ≡ overAll v st ct a
+  pub over-is : (ct : List ℕ) → overGroups (v .order .ways) (rows (v .order)) (foundBy (v .used) ps) (deepBy ds) (v .taken) (sizes (v .order)) ct ≡ overAll v st ct x
   over-is ct =
       any-same (sizes (v .order))
       (λ (k : ℕ). foundBy (v .used) ps k && anyTo (rows (v .order)) (overRow (v .order .ways) (k * rows (v .order)) (deepBy ds k) (v .taken) ct))
-      (λ (k : ℕ). foundAt v st a k && anyTo (rows (v .order)) (overRow (v .order .ways) (k * rows (v .order)) (depthAt v st a k) (v .taken) ct))
+      (λ (k : ℕ). foundAt v st x k && anyTo (rows (v .order)) (overRow (v .order .ways) (k * rows (v .order)) (depthAt v st x k) (v .taken) ct))
       (λ k h.
       ap (λ (t : Bool). t && anyTo (rows (v .order)) (overRow (v .order .ways) (k * rows (v .order)) (deepBy ds k) (v .taken) ct)) (same-found k h)
-      ∙ ap (λ (t : Bool). foundAt v st a k && t)
-      (any-same (rows (v .order)) (overRow (v .order .ways) (k * rows (v .order)) (deepBy ds k) (v .taken) ct) (overRow (v .order .ways) (k * rows (v .order)) (depthAt v st a k) (v .taken) ct)
+      ∙ ap (λ (t : Bool). foundAt v st x k && t)
+      (any-same (rows (v .order)) (overRow (v .order .ways) (k * rows (v .order)) (deepBy ds k) (v .taken) ct) (overRow (v .order .ways) (k * rows (v .order)) (depthAt v st x k) (v .taken) ct)
       (λ s g. ap (λ (n : ℕ). ltb n (v .order .ways) && leb (v .taken) (getD ct ((k * rows (v .order) + s) * v .order .ways + n) 0)) (seen .deep k s h g))))
 
-  pub counts-is : (ct : List ℕ) → raisedGroups (v .order .ways) (rows (v .order)) (foundBy (v .used) ps) (deepBy ds) (sizes (v .order)) ct ≡ countsDone v st ct a
-  counts-is ct = groups-same (v .order .ways) (rows (v .order)) (foundBy (v .used) ps) (foundAt v st a) (deepBy ds) (depthAt v st a) (sizes (v .order)) ct same-found (seen .deep)
+  pub counts-is : (ct : List ℕ) → raisedGroups (v .order .ways) (rows (v .order)) (foundBy (v .used) ps) (deepBy ds) (sizes (v .order)) ct ≡ countsDone v st ct x
+  counts-is ct = groups-same (v .order .ways) (rows (v .order)) (foundBy (v .used) ps) (foundAt v st x) (deepBy ds) (depthAt v st x) (sizes (v .order)) ct same-found (seen .deep)
 
-  pub room-of : anyTo (sizes (v .order)) (λ (k : ℕ). leb (v .order .room) (getD ps k 0)) ≡ false
-      → Roomed (sizes (v .order)) (v .order .room) (v .order .bmin .0) st (v .used) ps a
-  room-of e k h =
-      (f .used k h, leb-false (v .order .room) (getD ps k 0) (any-not (sizes (v .order)) (λ (k : ℕ). leb (v .order .room) (getD ps k 0)) e k h), seen .place k h)
+  pub room-of : length (v .used) ≡ 8 → length ps ≡ 8 → anyTo (sizes (v .order)) (λ (k : ℕ). leb (v .order .room) (getD ps k 0)) ≡ false
+      → Roomed (sizes (v .order)) (v .order .room) x st (v .used) ps
+  room-of eight places e = record {
+    sizes = omega (arith, f .numbers);
+    small = omega (arith, f .numbers);
+    long = f .long;
+    lengths = eight;
+    places = places;
+    used = f .used;
+    below =
+        λ k h. leb-false (v .order .room) (getD ps k 0) (any-not (sizes (v .order)) (λ (k : ℕ). leb (v .order .room) (getD ps k 0)) e k h);
+    place = seen .place;
+  }
 
   pub falling-of : (k : ℕ) → k < sizes (v .order) → Falling (k * 15) (rows (v .order)) ds
   falling-of k h s t le g e =
-      let shallow = depth-falls s t le (blockAt v a k) (stackAt v st k) in
+      let shallow = depth-falls s t le (x k) (stackAt v st k) in
       let here = seen .deep k s h (omega arith) in
       let there = seen .deep k t h g in
       omega arith
+
+-- the blocks of an address, made from that of the smallest size
+pub same-blocks : (v : Opened) (a first : ℕ) → first ≡ blockOf (v .order .bmin .0) a → widerBy first ≡ blockAt v a
+same-blocks v a first e = fun-ext (λ k. ap (blockOf k) e ∙ sym (block-wider (v .order .bmin .0) k a))
 
 -- a scratch array at its start
 pub getD-zeros : (n i : ℕ) → _≡_ {A = ℕ} (getD (replicate n 0) i 0) 0
@@ -82,13 +97,10 @@ getD-zeros zero i = refl
 getD-zeros (suc n) zero = refl
 getD-zeros (suc n) (suc i) = getD-zeros n i
 
-and-false-of : (a b : Bool) → (a && b) ≡ false → a ≡ true → b ≡ false
-and-false-of true b e h = e
-and-false-of false b e h = absurd (false≢true h)
-
 -- where no count is over, each can go up by one
-pub raisable-of : (n r w taken : ℕ) (ct : List ℕ) (f : ℕ → Bool) (d : ℕ → ℕ → ℕ) → taken ≤ 4294967295 → overGroups w r f d taken n ct ≡ false → Raisable n r w ct f d
-raisable-of n r w taken ct f d small none k s h e g below =
+pub raisable-of : (n r w taken : ℕ) (ct : List ℕ) (f : ℕ → Bool) (d : ℕ → ℕ → ℕ) → taken ≤ countMost → overGroups w r f d taken n ct ≡ false
+    → AllRaisable n r w f d ct
+raisable-of n r w taken ct f d small none k h e s g below =
     let group = and-false-of (f k) (anyTo r (overRow w (k * r) (d k) taken ct)) (any-not n (λ (k : ℕ). f k && anyTo r (overRow w (k * r) (d k) taken ct)) none k h) e in
     let row = any-not r (overRow w (k * r) (d k) taken ct) group s g in
     let under = leb-false taken (getD ct ((k * r + s) * w + d k s) 0)
@@ -125,7 +137,7 @@ module _ (v : Opened) (st ct : List ℕ) (a : ℕ) where
   answer-early r e ne =
       sym (answer-is ∙ simp (ne-eqb (earlyAnswer v (length st) (length ct)) 0 (λ z. ne (e ∙ z))) (sym e))
 
-  pub answer-late : Fit v (length st) (length ct) → v .taken < v .order .refs → (t u : Bool) → anyTo (sizes (v .order)) (fullAt v st a) ≡ t → overAll v st ct a ≡ u
+  pub answer-late : Fit v (length st) (length ct) → v .taken < v .order .refs → (t u : Bool) → anyTo (sizes (v .order)) (fullAt v st (blockAt v a)) ≡ t → overAll v st ct (blockAt v a) ≡ u
       → takeAnswer (world v st ct) (ref a) ≡ cond t 6 (cond u 7 0)
   answer-late f less t u p q =
       let short = ne-eqb (v .taken) (v .order .refs) (λ z. omega arith) in
@@ -141,11 +153,11 @@ module _ (v : Opened) (st ct : List ℕ) (a : ℕ) where
   }
 
   pub done : (v′ : Opened) (st′ ct′ : List ℕ) → Fit v (length st) (length ct) → takeAnswer (world v st ct) (ref a) ≡ 0
-      → v′ ≡ stateDone v st a → st′ ≡ stacksDone v st a → ct′ ≡ countsDone v st ct a → Takes (world v st ct) (ref a) 0 (world v′ st′ ct′)
+      → v′ ≡ stateDone v st (blockAt v a) → st′ ≡ stacksDone v st (blockAt v a) → ct′ ≡ countsDone v st ct (blockAt v a) → Takes (world v st ct) (ref a) 0 (world v′ st′ ct′)
   done v′ st′ ct′ f z p q r = record {
     answer = sym z;
     left =
-        ap (λ (x : Opened). world x st′ ct′) p ∙ ap₂ (λ (x y : List ℕ). world (stateDone v st a) x y) q r
+        ap (λ (x : Opened). world x st′ ct′) p ∙ ap₂ (λ (x y : List ℕ). world (stateDone v st (blockAt v a)) x y) q r
         ∙ sym (taken-is v st ct a f)
         ∙ sym (settled-done (takeAnswer (world v st ct) (ref a)) (taken (world v st ct) (ref a)) (world v st ct) z);
   }

@@ -2,27 +2,24 @@
 -- exactly 2^b times it, so that no NaN and no infinity comes. Not here: rounding (RoundingLaws). Assumes nothing.
 use Prim.Native.Nat.{ℕ, _-_, _^_, _≤_}
 use mathlib.Core.Path.{_≡_, refl, sym, ap, subst}
-use mathlib.Core.Bool.{Bool, true, false, cond, not, _||_, true≢false}
+use mathlib.Core.Bool.{Bool, true, false, cond, not}
 use mathlib.Core.List.{List}
 use native.Mathlib.Omega.{arith}
-use borrow.Author.Tests.{ne-eqb, eqb-true, eqb-false, ltb-false, not-false}
-use lib.Dec.{T, eqb, ltb}
+use borrow.Author.Tests.{ne-eqb, eqb-true, eqb-false}
+use lib.Dec.{T, eqb}
 use lib.IntN.{pos}
 use lib.ListN.{length}
 use lib.Ieee.{fin, binary64, ofBits, le}
-use Rattle.lists.specs.Tests.{anyTo}
 use Rattle.units.specs.Refusals.{noReferences}
 use Rattle.lists.proofs.Cases.{cases}
-use Rattle.lists.proofs.TestLaws.{all-facts, none-first}
-use Rattle.order.specs.Limits.{limits, within, sizes, countNeed}
-use Rattle.taking.specs.Places.{usedOf}
-use Rattle.taking.specs.Taking.{isForeign}
-use Rattle.taking.specs.Questions.{asked, has, hitsOf, missesAnswer, missesOf}
+use Rattle.lists.proofs.TestLaws.{none-first}
+use Rattle.taking.specs.Questions.{hitsOf, missesAnswer, missesOf}
 use Rattle.taking.specs.Ratios.{ratiosAt, ratiosAnswer, ratiosFrom, ratiosOf}
 use Rattle.taking.specs.declared.Counted.{Counted}
 use Rattle.taking.specs.declared.Opened.{Opened}
 use Rattle.taking.specs.declared.Rated.{Rated}
 use Rattle.taking.specs.declared.Ratios.{Ratios}
+use Rattle.taking.proofs.QuestionLaws.{asked-of, early-none}
 use Rattle.taking.proofs.RoundingLaws.{Times, traffic-times, part-at-most-one}
 
 -- ---- the three outcomes
@@ -54,21 +51,11 @@ given-facts c n h =
 
 -- ---- what misses' answer of 0 says of the numbers
 
-second-not : (p q : Bool) → (p || q) ≡ false → q ≡ false
-second-not true q e = absurd (true≢false e)
-second-not false q e = e
-
 module _ (v : Opened) (ct : List ℕ) (b s w : ℕ) (counted : missesAnswer v ct b s w ≡ 0) where
   pub counted-small : (b ≤ 12) × (v .taken ≤ 4000000000)
   counted-small =
-      let first = none-first (not (within (v .order))) 0 _ counted in
-      let second = none-first (ltb (length ct) (countNeed (v .order))) 2 _ (first .1) in
-      let third = none-first (isForeign v) 3 _ (second .1) in
-      let fourth = none-first (not (has (v .order) b s w)) 7 _ (third .1) in
-      let f = all-facts (limits (v .order)) (not-false (within (v .order)) (first .0)) in
-      let q = all-facts (asked (v .order) b s w) (not-false (has (v .order) b s w) (fourth .0)) in
-      let below = ltb-false (v .order .refs) (v .taken) (second-not (anyTo (sizes (v .order)) (λ (k : ℕ). ltb (v .order .room) (usedOf v k))) _ (third .0)) in
-      (omega (arith, q, f), omega (arith, below, f))
+      let q = asked-of v (length ct) b s w (early-none v ct b s w counted) in
+      (omega (arith, q .there, q .numbers), omega (arith, q .ceiling, q .numbers))
 
 -- ---- ratios that are given
 

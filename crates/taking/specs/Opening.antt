@@ -1,4 +1,4 @@
--- Opening an order (document 01, "The order's numbers"; its refusals 1, 2, 3). Assumes nothing.
+-- Opening an order (SCOPE, "The order's numbers"; its refusals 1, 2, 3). Assumes nothing.
 use Prim.Native.Nat.{ℕ}
 use mathlib.Core.Path.{_≡_}
 use mathlib.Core.Bool.{not}

@@ -1,4 +1,4 @@
--- The opened order and where things stand in its two tables (document 01, "The order's numbers").
+-- The opened order and where things stand in its two tables (SCOPE, "The order's numbers").
 -- A block size is named by k = b - bmin, from 0 to sizes - 1. Assumes nothing.
 use Prim.Native.Nat.{ℕ, _+_, _*_}
 use mathlib.Core.Bool.{Bool}
@@ -9,7 +9,7 @@ use Rattle.lists.specs.Tables.{part}
 use Rattle.cache.specs.Cache.{blockOf}
 use Rattle.cache.specs.Stack.{depth}
 use Rattle.order.specs.declared.Order.{Order}
-use Rattle.order.specs.Limits.{rows}
+use Rattle.order.specs.Limits.{rows, span}
 use Rattle.taking.specs.declared.Opened.{Opened}
 
 -- where the count for (b, s, d) stands
@@ -23,12 +23,17 @@ usedOf v k = getD (v .used) k 0
 abbrev pub stackAt : Opened → List ℕ → ℕ → List ℕ
 stackAt v st k = part (k * v .order .room) (usedOf v k) st
 
--- the block of address a; whether it is in the stack; its depth there at 2^s sets
+-- the counts of a block size, which start at k times the counts of one
+abbrev pub countsAt : Opened → List ℕ → ℕ → List ℕ
+countsAt v ct k = part (k * span (v .order)) (span (v .order)) ct
+
+-- the block of address a at size k
 abbrev pub blockAt : Opened → ℕ → ℕ → ℕ
 blockAt v a k = blockOf (v .order .bmin .0 + k) a
 
-abbrev pub foundAt : Opened → List ℕ → ℕ → ℕ → Bool
-foundAt v st a k = mem (blockAt v a k) (stackAt v st k)
+-- whether the block at size k, x k, is in the stack; its depth there at 2^s sets
+abbrev pub foundAt : Opened → List ℕ → (ℕ → ℕ) → ℕ → Bool
+foundAt v st x k = mem (x k) (stackAt v st k)
 
-abbrev pub depthAt : Opened → List ℕ → ℕ → ℕ → ℕ → ℕ
-depthAt v st a k s = depth s (blockAt v a k) (stackAt v st k)
+abbrev pub depthAt : Opened → List ℕ → (ℕ → ℕ) → ℕ → ℕ → ℕ
+depthAt v st x k s = depth s (x k) (stackAt v st k)

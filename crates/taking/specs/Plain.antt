@@ -1,5 +1,5 @@
 -- A taking over all block sizes at once, as the private functions do it: proofs/TakenLaws.antt has that it is the taking of each size.
--- No public contract cites this page. Assumes nothing.
+-- A block is told by size: x k is the block at size k. No public contract cites this page. Assumes nothing.
 use Prim.Native.Nat.{ℕ, _+_}
 use mathlib.Core.Bool.{Bool, not, _&&_}
 use mathlib.Core.List.{List, _∷_}
@@ -7,29 +7,29 @@ use lib.Dec.{leb}
 use Rattle.lists.specs.Members.{remove}
 use Rattle.lists.specs.Tables.{writtenRows, setLengths, raisedGroups, overGroups}
 use Rattle.order.specs.Limits.{sizes, rows}
-use Rattle.taking.specs.Places.{usedOf, stackAt, blockAt, foundAt, depthAt}
+use Rattle.taking.specs.Places.{usedOf, stackAt, foundAt, depthAt}
 use Rattle.taking.specs.declared.Opened.{Opened}
 
 -- at block size k the block is new and its stack is full
-abbrev pub fullAt : Opened → List ℕ → ℕ → ℕ → Bool
-fullAt v st a k = not (foundAt v st a k) && leb (v .order .room) (usedOf v k)
+abbrev pub fullAt : Opened → List ℕ → (ℕ → ℕ) → ℕ → Bool
+fullAt v st x k = not (foundAt v st x k) && leb (v .order .room) (usedOf v k)
 
 -- a count to be raised is not below the references taken
-abbrev pub overAll : Opened → List ℕ → List ℕ → ℕ → Bool
-overAll v st ct a = overGroups (v .order .ways) (rows (v .order)) (foundAt v st a) (depthAt v st a) (v .taken) (sizes (v .order)) ct
+abbrev pub overAll : Opened → List ℕ → List ℕ → (ℕ → ℕ) → Bool
+overAll v st ct x = overGroups (v .order .ways) (rows (v .order)) (foundAt v st x) (depthAt v st x) (v .taken) (sizes (v .order)) ct
 
 -- the block goes to the top: blocks that were above it move down one and the others stay; under a new block all move down one
-abbrev pub topped : Opened → List ℕ → ℕ → ℕ → List ℕ
-topped v st a k = blockAt v a k ∷ remove (blockAt v a k) (stackAt v st k)
+abbrev pub topped : Opened → List ℕ → (ℕ → ℕ) → ℕ → List ℕ
+topped v st x k = x k ∷ remove (x k) (stackAt v st k)
 
 -- each stack with its block on top, in its place
-abbrev pub stacksDone : Opened → List ℕ → ℕ → List ℕ
-stacksDone v st a = writtenRows (v .order .room) (topped v st a) (sizes (v .order)) st
+abbrev pub stacksDone : Opened → List ℕ → (ℕ → ℕ) → List ℕ
+stacksDone v st x = writtenRows (v .order .room) (topped v st x) (sizes (v .order)) st
 
 -- at each block size where the block is found, for each s with depth below `ways`, the count for (b, s, depth) goes up by one
-abbrev pub countsDone : Opened → List ℕ → List ℕ → ℕ → List ℕ
-countsDone v st ct a = raisedGroups (v .order .ways) (rows (v .order)) (foundAt v st a) (depthAt v st a) (sizes (v .order)) ct
+abbrev pub countsDone : Opened → List ℕ → List ℕ → (ℕ → ℕ) → List ℕ
+countsDone v st ct x = raisedGroups (v .order .ways) (rows (v .order)) (foundAt v st x) (depthAt v st x) (sizes (v .order)) ct
 
 -- the references taken go up by one, and each used length is that of its stack
-abbrev pub stateDone : Opened → List ℕ → ℕ → Opened
-stateDone v st a = record { order = v .order; taken = v .taken + 1; used = setLengths (topped v st a) (sizes (v .order)) (v .used) }
+abbrev pub stateDone : Opened → List ℕ → (ℕ → ℕ) → Opened
+stateDone v st x = record { order = v .order; taken = v .taken + 1; used = setLengths (topped v st x) (sizes (v .order)) (v .used) }

@@ -1,4 +1,4 @@
--- The two ratios, handed back together (document 01, "Questions"): refused as misses are, then with 9 where no references are taken.
+-- The two ratios, handed back together (SCOPE, "Questions"): refused as misses are, then with 9 where no references are taken.
 -- Assumes nothing.
 use Prim.Native.Nat.{ℕ, _*_, _^_}
 use mathlib.Core.Bool.{false, cond, not}

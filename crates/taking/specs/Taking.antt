@@ -1,4 +1,4 @@
--- Taking what is given (document 01, "The stack and the counts"; its refusals 1 to 7, in that order): each block size takes its events.
+-- Taking what is given (SCOPE, "The stack and the counts"; its refusals 1 to 7, in that order): each block size takes its events.
 -- Assumes nothing.
 use Prim.Native.Nat.{ℕ, _+_}
 use mathlib.Core.Path.{_≡_}

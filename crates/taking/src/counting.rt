@@ -1,4 +1,5 @@
 // The counts: raising them, and what has to be seen before any is raised.
+use order::Order;
 ghost use mathlib.Core.Path.{_≡_};
 ghost use Prim.Native.Nat.{ℕ, _+_, _*_, _≤_, _<_};
 ghost use lib.Dec.{leb};
@@ -6,12 +7,12 @@ ghost use lib.ListN.{length, getD};
 ghost use Rattle.lists.specs.Sums.{sumTo};
 ghost use Rattle.lists.specs.Tables.{overRow, overGroups, raisedRows, raisedGroups};
 ghost use Rattle.lists.specs.Tests.{anyTo};
-ghost use Rattle.taking.specs.Parts.{Bumped, Falling, Grid, Raisable, foundBy, deepBy};
+ghost use Rattle.taking.specs.Parts.{countMost, Bumped, Rows, Tabled, Raisable, AllRaisable, depthFrom, foundBy, deepBy};
 
 // In the `rows` depths from `base` on, one more at each s up to `shared`.
 pub(crate) fn bump(depths: &mut [u32], base: usize, rows: usize, shared: usize)
     requires { ⌜ base + rows ≤ length (now depths) ⌝ }
-    requires { ⌜ ((s : ℕ) → s < rows → getD (now depths) (base + s) 0 < 4294967295) ⌝ }
+    requires { ⌜ ((s : ℕ) → s < rows → getD (now depths) (base + s) 0 < countMost) ⌝ }
     ensures { λ _. ⌜ Bumped base rows shared (now (depths .entry)) (now (depths .exit)) ⌝ }
 {
     let mut end = rows;
@@ -36,9 +37,8 @@ fn size_over(
     rows: usize,
     taken: u32,
 ) -> bool
-    requires { ⌜ ((first + rows) * ways ≤ length (now counts)) × (1 ≤ ways) × (at + rows ≤ length (now depths)) ⌝ }
-    requires { ⌜ Falling at rows (now depths) ⌝ }
-    ensures { λ r. ⌜ r ≡ anyTo rows (overRow ways first (λ (s : ℕ). getD (now (depths .entry)) (at + s) 0) taken (now (counts .entry))) ⌝ }
+    requires { ⌜ Rows first rows ways (length (now counts)) at (now depths) ⌝ }
+    ensures { λ r. ⌜ r ≡ anyTo rows (overRow ways first (depthFrom at (now (depths .entry))) taken (now (counts .entry))) ⌝ }
 {
     let mut s = 0usize;
     while s < rows {
@@ -73,14 +73,22 @@ pub(crate) fn is_over(
     ways: usize,
     taken: u32,
 ) -> bool
-    requires { ⌜ Grid sizes rows ways (length (now counts)) × (length (now used) ≡ 8) × (length (now places) ≡ 8) × (length (now depths) ≡ 120) ⌝ }
-    requires { ⌜ ((k : ℕ) → k < sizes → Falling (k * 15) rows (now depths)) ⌝ }
-    ensures { λ r. ⌜ r ≡ overGroups ways rows (foundBy (now (used .entry)) (now (places .entry))) (deepBy (now (depths .entry))) taken sizes (now (counts .entry)) ⌝ }
+    requires { ⌜ Tabled sizes rows ways (length (now counts)) (now used) (now places) (now depths) ⌝ }
+    ensures { λ r.
+        ⌜ r ≡ overGroups ways rows (foundBy (now (used .entry)) (now (places .entry))) (deepBy (now (depths .entry))) taken sizes (now (counts .entry)) ⌝ }
 {
     let mut k = 0usize;
     while k < sizes {
         if places[k] < used[k] {
-            if size_over(counts, k * rows, ways, depths, k * 15, rows, taken) {
+            if size_over(
+                counts,
+                k * rows,
+                ways,
+                depths,
+                k * Order::ROWS_MOST,
+                rows,
+                taken,
+            ) {
                 return true;
             }
         }
@@ -92,10 +100,9 @@ pub(crate) fn is_over(
 // In each of the `rows` rows from row `first` on, one more at the row's depth, where that is below `ways`.
 // From the first depth of 0 on all are 0.
 fn raise(counts: &mut [u32], first: usize, ways: usize, depths: &[u32], at: usize, rows: usize)
-    requires { ⌜ ((first + rows) * ways ≤ length (now counts)) × (1 ≤ ways) × (at + rows ≤ length (now depths)) ⌝ }
-    requires { ⌜ Falling at rows (now depths) ⌝ }
-    requires { ⌜ ((s : ℕ) → s < rows → getD (now depths) (at + s) 0 < ways → getD (now counts) ((first + s) * ways + getD (now depths) (at + s) 0) 0 < 4294967295) ⌝ }
-    ensures { λ _. ⌜ now (counts .exit) ≡ raisedRows ways first (λ (s : ℕ). getD (now (depths .entry)) (at + s) 0) rows (now (counts .entry)) ⌝ }
+    requires { ⌜ Rows first rows ways (length (now counts)) at (now depths) ⌝ }
+    requires { ⌜ Raisable first rows ways (depthFrom at (now depths)) (now counts) ⌝ }
+    ensures { λ _. ⌜ now (counts .exit) ≡ raisedRows ways first (depthFrom at (now (depths .entry))) rows (now (counts .entry)) ⌝ }
 {
     let mut s = 0usize;
     while s < rows {
@@ -126,15 +133,16 @@ pub(crate) fn raise_all(
     rows: usize,
     ways: usize,
 )
-    requires { ⌜ Grid sizes rows ways (length (now counts)) × (length (now used) ≡ 8) × (length (now places) ≡ 8) × (length (now depths) ≡ 120) ⌝ }
-    requires { ⌜ ((k : ℕ) → k < sizes → Falling (k * 15) rows (now depths)) ⌝ }
-    requires { ⌜ Raisable sizes rows ways (now counts) (foundBy (now used) (now places)) (deepBy (now depths)) ⌝ }
-    ensures { λ _. ⌜ now (counts .exit) ≡ raisedGroups ways rows (foundBy (now (used .entry)) (now (places .entry))) (deepBy (now (depths .entry))) sizes (now (counts .entry)) ⌝ }
+    requires { ⌜ Tabled sizes rows ways (length (now counts)) (now used) (now places) (now depths) ⌝ }
+    requires { ⌜ AllRaisable sizes rows ways (foundBy (now used) (now places)) (deepBy (now depths)) (now counts) ⌝ }
+    ensures { λ _.
+        ⌜ now (counts .exit)
+        ≡ raisedGroups ways rows (foundBy (now (used .entry)) (now (places .entry))) (deepBy (now (depths .entry))) sizes (now (counts .entry)) ⌝ }
 {
     let mut k = 0usize;
     while k < sizes {
         if places[k] < used[k] {
-            raise(counts, k * rows, ways, depths, k * 15, rows);
+            raise(counts, k * rows, ways, depths, k * Order::ROWS_MOST, rows);
         }
         k += 1;
     }
@@ -159,7 +167,7 @@ pub(crate) fn tops_over(counts: &[u32], ways: usize, rows: usize, taken: u32) ->
 // In each of the first `rows` rows, one more at depth 0.
 pub(crate) fn raise_tops(counts: &mut [u32], ways: usize, rows: usize)
     requires { ⌜ (rows * ways ≤ length (now counts)) × (1 ≤ ways) ⌝ }
-    requires { ⌜ ((s : ℕ) → s < rows → getD (now counts) (s * ways) 0 < 4294967295) ⌝ }
+    requires { ⌜ ((s : ℕ) → s < rows → getD (now counts) (s * ways) 0 < countMost) ⌝ }
     ensures { λ _. ⌜ now (counts .exit) ≡ raisedRows ways 0 (λ (s : ℕ). 0) rows (now (counts .entry)) ⌝ }
 {
     let mut s = 0usize;

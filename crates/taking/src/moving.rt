@@ -1,13 +1,11 @@
 // The stacks: a block goes to the top of each.
+use units::BlockNo;
 ghost use mathlib.Core.Path.{_≡_};
 ghost use Prim.Native.Nat.{ℕ, _+_, _*_, _≤_, _<_};
-ghost use mathlib.Core.List.{_∷_};
 ghost use lib.Dec.{leb};
 ghost use lib.ListN.{length, getD};
-ghost use Rattle.lists.specs.Members.{remove, above};
-ghost use Rattle.lists.specs.Tables.{part, writeAt, writtenRows, setLengths};
 ghost use Rattle.lists.specs.Tests.{anyTo};
-ghost use Rattle.taking.specs.Parts.{Roomed, front, toppedBy};
+ghost use Rattle.taking.specs.Parts.{Stopped, Moved, Roomed, AllMoved, front, widerBy};
 
 // Some walk left at or past room: its block is new and its stack is full.
 pub(crate) fn is_full(places: &[u32], sizes: usize, room: u32) -> bool
@@ -25,22 +23,22 @@ pub(crate) fn is_full(places: &[u32], sizes: usize, room: u32) -> bool
 }
 
 // The first p entries move down one, over the entry at p, and x goes on top.
-fn to_front(stack: &mut [u32], p: usize, x: u32)
+fn to_front(stack: &mut [u32], p: usize, x: BlockNo)
     requires { ⌜ p < length (now stack) ⌝ }
-    ensures { λ _. ⌜ now (stack .exit) ≡ front x p (now (stack .entry)) ⌝ }
+    ensures { λ _. ⌜ now (stack .exit) ≡ front (x .0) p (now (stack .entry)) ⌝ }
 {
     let mut i = p;
     while i > 0 {
         stack[i] = stack[i - 1];
         i -= 1;
     }
-    stack[0] = x;
+    stack[0] = x.0;
 }
 
 // Puts x on top of the stack of `used` entries from `base` on, where a walk left at p; gives the stack's length then.
-fn move_one(stacks: &mut [u32], base: usize, used: usize, p: usize, x: u32) -> usize
-    requires { ⌜ (base + used ≤ length (now stacks)) × (p ≡ length (above x (part base used (now stacks)))) × (base + p < length (now stacks)) ⌝ }
-    ensures { λ r. ⌜ (now (stacks .exit) ≡ writeAt base (x ∷ remove x (part base used (now (stacks .entry)))) (now (stacks .entry))) × (r ≡ length (x ∷ remove x (part base used (now (stacks .entry))))) ⌝ }
+fn move_one(stacks: &mut [u32], base: usize, used: usize, p: usize, x: BlockNo) -> usize
+    requires { ⌜ Stopped base used p (x .0) (now stacks) ⌝ }
+    ensures { λ r. ⌜ Moved base used (x .0) (now (stacks .entry)) (now (stacks .exit)) r ⌝ }
 {
     if p < used {
         to_front(&mut stacks[base..base + used], p, x);
@@ -51,23 +49,21 @@ fn move_one(stacks: &mut [u32], base: usize, used: usize, p: usize, x: u32) -> u
     }
 }
 
-// Puts the block of address a on top of every stack, and sets each stack's used length.
+// Puts the block, `first` of the smallest size, on top of every stack, and sets each stack's used length.
 pub(crate) fn move_all(
     stacks: &mut [u32],
     used: &mut [u32],
     places: &[u32],
     sizes: usize,
     room: usize,
-    bmin: u32,
-    a: u32,
+    first: BlockNo,
 )
-    requires { ⌜ (sizes ≤ 8) × (bmin ≤ 12) × (room ≤ 1048576) × (sizes * room ≤ length (now stacks)) × (length (now used) ≡ 8) × (length (now places) ≡ 8) ⌝ }
-    requires { ⌜ Roomed sizes room bmin (now stacks) (now used) (now places) a ⌝ }
-    ensures { λ _. ⌜ (now (stacks .exit) ≡ writtenRows room (toppedBy room bmin (now (stacks .entry)) (now (used .entry)) a) sizes (now (stacks .entry))) × (now (used .exit) ≡ setLengths (toppedBy room bmin (now (stacks .entry)) (now (used .entry)) a) sizes (now (used .entry))) ⌝ }
+    requires { ⌜ Roomed sizes room (widerBy (first .0)) (now stacks) (now used) (now places) ⌝ }
+    ensures { λ _. ⌜ AllMoved sizes room (widerBy (first .0)) (now (stacks .entry)) (now (used .entry)) (now (stacks .exit)) (now (used .exit)) ⌝ }
 {
     let mut k = 0usize;
     while k < sizes {
-        let x = a >> (bmin + k as u32);
+        let x = first.wider(k as u32);
         let len = move_one(stacks, k * room, used[k] as usize, places[k] as usize, x);
         used[k] = len as u32;
         k += 1;

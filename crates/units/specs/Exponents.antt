@@ -1,4 +1,4 @@
--- Block sizes in words and in bytes (document 01, "The cache being counted"; document 000 counts in words of 8 bytes).
+-- Block sizes in words and in bytes (SCOPE, "The cache being counted"; document 000 counts in words of 8 bytes).
 -- Assumes nothing.
 use Prim.Native.Nat.{ℕ, _+_, min}
 

@@ -1,4 +1,4 @@
--- The refusal numbers, each defined once (document 01, "Refusal numbers", whose sentences stand beside them).
+-- The refusal numbers, each defined once (SCOPE, "Refusal numbers", whose sentences stand beside them).
 -- Assumes nothing.
 use Prim.Native.Nat.{ℕ}
 

@@ -1,5 +1,5 @@
-// What document 01 tells apart: byte addresses, block numbers and set numbers; exponents in bytes
-// and document 000's exponents in words. The refusal numbers are in refusal.rt.
+// What is told apart (SCOPE, "The cache being counted"): byte addresses, block numbers and set numbers; exponents
+// in bytes and document 000's exponents in words. The refusal numbers are in refusal.rt.
 ghost use mathlib.Core.Path.{_≡_};
 ghost use Rattle.cache.specs.Cache.{blockOf, setOf};
 ghost use Rattle.units.specs.Exponents.{bytesOf};
@@ -22,6 +22,10 @@ pub struct ByteExp(pub u32);
 pub struct WordExp(pub u32);
 
 impl Addr {
+    // "addresses are 0 to ffffffff"
+    pub const MOST: u32 = 4294967295;
+
+    // Its block of 2^b bytes.
     pub fn block(self, b: ByteExp) -> BlockNo
         ensures { λ r. ⌜ r .0 ≡ blockOf (b .0) (self .0) ⌝ }
     {
@@ -36,6 +40,18 @@ impl Addr {
 }
 
 impl BlockNo {
+    // The block 2^k times as large that holds it.
+    pub fn wider(self, k: u32) -> BlockNo
+        ensures { λ r. ⌜ r .0 ≡ blockOf k (self .0) ⌝ }
+    {
+        let block = self.0;
+        if k < 32 {
+            BlockNo(block >> k)
+        } else {
+            BlockNo(0)
+        }
+    }
+
     // The set of the block among 2^s sets.
     pub fn set(self, s: u32) -> SetNo
         ensures { λ r. ⌜ r .0 ≡ setOf s (self .0) ⌝ }
@@ -49,15 +65,20 @@ impl BlockNo {
     }
 }
 
+impl ByteExp {
+    // The largest exponent that 32 bits hold, outside every limit.
+    pub const MOST: u32 = 4294967295;
+}
+
 impl WordExp {
     // The same block size, counted in bytes.
     pub fn in_bytes(self) -> ByteExp
         ensures { λ r. ⌜ r .0 ≡ bytesOf (self .0) ⌝ }
     {
-        if self.0 < 4294967292 {
+        if self.0 < ByteExp::MOST - 3 {
             ByteExp(self.0 + 3)
         } else {
-            ByteExp(4294967295)
+            ByteExp(ByteExp::MOST)
         }
     }
 }

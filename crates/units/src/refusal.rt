@@ -1,4 +1,4 @@
-// The refusal numbers of document 01, each named once.
+// The refusal numbers (SCOPE, "Refusal numbers"), each named once.
 
 // Done.
 pub const DONE: u32 = 0;

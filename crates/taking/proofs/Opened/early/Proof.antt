@@ -1,116 +1,77 @@
 -- `early` meets its contract: each `return` has the tests that led to it. Assumes nothing.
-use Prim.Native.Nat.{ℕ, _≤_, _<_, _-_, _+_, _*_}
-use mathlib.Core.Path.{_≡_, refl, sym, ap, _∙_}
+use mathlib.Core.Path.{_≡_, sym, _∙_}
+use mathlib.Core.Bool.{true, false}
 use native.Mathlib.Omega.{arith}
-use lib.ListN.{length}
-use borrow.Author.Tests.{lt-ltb, le-ltb, eq-eqb, ne-eqb, not-true, not-false}
-use Rattle.taking.proofs.NeedLaws.{within-yes, within-no, within-test, needs-small}
-use Rattle.order.specs.Limits.{stackNeed, countNeed}
+use lib.Dec.{ltb}
 use borrow.Author.Needs.{needs}
+use borrow.Author.Tests.{eq-eqb, ne-eqb}
+use Rattle.order.specs.Limits.{within, stackNeed, countNeed}
+use Rattle.order.proofs.LimitLaws.{within-no, within-test, within-yes}
+use Rattle.taking.specs.Taking.{isForeign}
+use Rattle.taking.proofs.NeedLaws.{short-of, long-of}
 use Rattle.taking.proofs.Opened.early.Statement.{statement}
 use Rattle.taking.proofs.Opened.early.Tie as tie
 
-cast-ways : tie.Need-cast-ways
-cast-ways c = search needs
+-- ---- what each test that was passed says
 
-cast-room : tie.Need-cast-room
-cast-room c = search needs
+fits : (c : tie.Else1) → within (c .before .before .before .args .self .order) ≡ true
+fits c = within-test _ _ (c .before .is-within .ensures) (c .if1 .left)
 
-is-within-requires : tie.Need-is-within-requires
-is-within-requires c κs = search needs
+long : (c : tie.Else2) → (let a = c .before .before .before .before .before .args in ltb (a .n) (stackNeed (a .self .order)) ≡ false)
+long c = long-of (c .before .stack-need .ensures) (c .if2 .left)
+
+-- the needed counts, as `count_need` tells them
+need : (c : tie.After-count-need) → c .count-need .result ≡ countNeed (c .before .before .before .before .before .before .args .self .order)
+need c = c .count-need .ensures ∙ simp (fits (c .before .before .before))
+
+wide : (c : tie.Else3) → (let a = c .before .before .before .before .before .before .before .args in ltb (a .m) (countNeed (a .self .order)) ≡ false)
+wide c = long-of (need (c .before)) (c .if3 .left)
+
+own : (c : tie.Else4) → isForeign (c .before .before .before .before .before .before .before .before .before .args .self) ≡ false
+own c = sym (c .before .is-foreign .ensures) ∙ c .if4 .left
+
+-- ---- the returns
 
 returns : tie.Need-returns
-returns c = let a = c .before .before .before .before .before .args in simp (within-no (a .self .order) _ (c .before .is-within .ensures) (c .if1 .taken))
-
-sub-sizes : tie.Need-sub-sizes
-sub-sizes c =
-    let a = c .before .before .before .before .before .args in
-    let f = within-yes (a .self .order) _ (c .before .is-within .ensures) (c .if1 .left) in
-    omega (arith, f)
-
-add-sizes : tie.Need-add-sizes
-add-sizes c =
-    let a = c .before .before .before .before .before .args in
-    let f = within-yes (a .self .order) _ (c .before .is-within .ensures) (c .if1 .left) in
-    omega (arith, f)
-
-cast-sizes : tie.Need-cast-sizes
-cast-sizes c = search needs
-
-add-rows : tie.Need-add-rows
-add-rows c =
-    let a = c .before .before .before .before .before .args in
-    let f = within-yes (a .self .order) _ (c .before .is-within .ensures) (c .if1 .left) in
-    omega (arith, f)
-
-cast-rows : tie.Need-cast-rows
-cast-rows c = search needs
-
-mul-stack-need : tie.Need-mul-stack-need
-mul-stack-need c =
-    let a = c .before .before .before .before .before .args in
-    let f = within-yes (a .self .order) _ (c .before .is-within .ensures) (c .if1 .left) in
-    omega (arith, f, needs-small (a .self .order) f)
-
-mul-count-need : tie.Need-mul-count-need
-mul-count-need c =
-    let a = c .before .before .before .before .before .args in
-    let f = within-yes (a .self .order) _ (c .before .is-within .ensures) (c .if1 .left) in
-    omega (arith, f, needs-small (a .self .order) f)
-
-mul-count-need-2 : tie.Need-mul-count-need-2
-mul-count-need-2 c =
-    let a = c .before .before .before .before .before .args in
-    let f = within-yes (a .self .order) _ (c .before .is-within .ensures) (c .if1 .left) in
-    omega (arith, f, needs-small (a .self .order) f)
+returns c = simp (within-no _ _ (c .before .is-within .ensures) (c .if1 .taken))
 
 returns-2 : tie.Need-returns-2
-returns-2 c = let a = c .before .before .before .before .before .before .args in simp (within-test (a .self .order) _ (c .before .before .is-within .ensures) (c .before .if1 .left), lt-ltb (a .n) (stackNeed (a .self .order)) (c .if2 .taken))
+returns-2 c = simp (fits (c .before .before), short-of (c .before .stack-need .ensures) (c .if2 .taken))
 
 returns-3 : tie.Need-returns-3
-returns-3 c = let a = c .before .before .before .before .before .before .before .args in simp (within-test (a .self .order) _ (c .before .before .before .is-within .ensures) (c .before .before .if1 .left), le-ltb (a .n) (stackNeed (a .self .order)) (c .before .if2 .left), lt-ltb (a .m) (countNeed (a .self .order)) (c .if3 .taken))
+returns-3 c = let l = c .before .before in simp (fits (l .before .before), long l, short-of (need (c .before)) (c .if3 .taken))
 
 is-foreign-requires : tie.Need-is-foreign-requires
-is-foreign-requires c κs =
-    let a = c .before .before .before .before .before .before .before .args in
-    let f = within-yes (a .self .order) _ (c .before .before .before .is-within .ensures) (c .before .before .if1 .left) in
-    omega (arith, f)
+is-foreign-requires c κs = let at = c .before .before .before .before in omega (arith, within-yes _ _ (at .before .is-within .ensures) (at .if1 .left))
 
 returns-4 : tie.Need-returns-4
 returns-4 c =
-    let a = c .before .before .before .before .before .before .before .before .before .args in
-    let foreign = sym (c .before .is-foreign .ensures) ∙ c .if4 .taken in
-    simp (within-test (a .self .order) _ (c .before .before .before .before .before .is-within .ensures) (c .before .before .before .before .if1 .left), le-ltb (a .n) (stackNeed (a .self .order)) (c .before .before .before .if2 .left), le-ltb (a .m) (countNeed (a .self .order)) (c .before .before .if3 .left), foreign)
+    let w = c .before .before in
+    let l = w .before .before in
+    simp (fits (l .before .before), long l, wide w, sym (c .before .is-foreign .ensures) ∙ c .if4 .taken)
 
 returns-5 : tie.Need-returns-5
 returns-5 c =
-    let a = c .before .before .before .before .before .before .before .before .before .before .args in
-    let own = sym (c .before .before .is-foreign .ensures) ∙ c .before .if4 .left in
-    simp (within-test (a .self .order) _ (c .before .before .before .before .before .before .is-within .ensures) (c .before .before .before .before .before .if1 .left), le-ltb (a .n) (stackNeed (a .self .order)) (c .before .before .before .before .if2 .left), le-ltb (a .m) (countNeed (a .self .order)) (c .before .before .before .if3 .left), own, eq-eqb (a .self .taken) (a .self .order .refs) (c .if5 .taken))
+    let o = c .before .before .before in
+    let l = o .before .before .before .before in
+    simp (fits (l .before .before), long l, wide (o .before .before), own o, eq-eqb _ _ (c .if5 .taken))
 
 returns-6 : tie.Need-returns-6
 returns-6 c =
-    let a = c .before .before .before .before .before .before .before .before .before .before .args in
-    let own = sym (c .before .before .is-foreign .ensures) ∙ c .before .if4 .left in
-    simp (within-test (a .self .order) _ (c .before .before .before .before .before .before .is-within .ensures) (c .before .before .before .before .before .if1 .left), le-ltb (a .n) (stackNeed (a .self .order)) (c .before .before .before .before .if2 .left), le-ltb (a .m) (countNeed (a .self .order)) (c .before .before .before .if3 .left), own, ne-eqb (a .self .taken) (a .self .order .refs) (c .if5 .left))
+    let o = c .before .before .before in
+    let l = o .before .before .before .before in
+    simp (fits (l .before .before), long l, wide (o .before .before), own o, ne-eqb _ _ (c .if5 .left))
 
+-- closed by search
 pub early-spec : {M : Type 1} → statement M
 early-spec =
     tie.close
     (tie.spec
-    cast-ways
-    cast-room
-    is-within-requires
+    (λ c κs. search needs)
     returns
-    sub-sizes
-    add-sizes
-    cast-sizes
-    add-rows
-    cast-rows
-    mul-stack-need
-    mul-count-need
-    mul-count-need-2
+    (λ c κs. search needs)
     returns-2
+    (λ c κs. search needs)
     returns-3
     is-foreign-requires
     returns-4

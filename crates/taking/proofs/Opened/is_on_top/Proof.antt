@@ -1,149 +1,114 @@
--- `is_on_top` meets its contract: at each size passed the block is on top. Assumes nothing.
+-- `is_on_top` meets its contract: at each size passed the block is on top; two blocks are equal exactly where their exclusive or has 32 trailing
+-- zeros. Assumes nothing.
 use Prim.Native.Nat.{ℕ, _≤_, _<_, _-_, _+_, _*_}
-use mathlib.Core.Path.{_≡_}
-use mathlib.Core.Bool.{false≢true}
+use mathlib.Core.Path.{_≡_, sym, ap, _∙_}
+use mathlib.Core.Bool.{Bool, true, false, not, _||_}
 use native.Mathlib.Omega.{arith}
+use lib.Bits.{bitXor}
+use lib.Count.{trailingZeros}
+use lib.Dec.{eqb, leb}
 use lib.ListN.{length, getD}
-use borrow.Author.Count.{below-more}
-use Rattle.cache.specs.Cache.{blockOf}
-use Rattle.order.specs.Limits.{sizes as sizesOf, countNeed}
-use Rattle.taking.specs.Places.{usedOf, blockAt}
-use Rattle.taking.specs.Parts.{Fit}
-use Rattle.taking.proofs.NeedLaws.{stack-fits}
 use borrow.Author.Needs.{needs}
+use borrow.Author.Tests.{eq-eqb, ne-eqb, le-leb, lt-leb}
+use Rattle.lists.specs.Tests.{anyTo}
+use Rattle.lists.proofs.TestLaws.{any-none, any-more, any-yes, any-ended}
+use Rattle.order.specs.Limits.{sizes as sizesOf, countNeed}
+use Rattle.units.proofs.BitLaws.{equal-by-bits}
+use Rattle.taking.specs.Places.{usedOf}
+use Rattle.taking.specs.Parts.{Fit, widerBy, offTop, onTop}
+use Rattle.taking.proofs.NeedLaws.{stack-fits}
 use Rattle.taking.proofs.Opened.is_on_top.Statement.{statement}
 use Rattle.taking.proofs.Opened.is_on_top.Tie as tie
 
 abbrev Inv-loop : tie.InvT-loop
-Inv-loop stacks a self bmin sizes room k₀ k = Fit self (length stacks) (countNeed (self .order)) × (k ≤ sizes) × ((j : ℕ) → j < k → (0 < usedOf self j) × (getD stacks (j * self .order .room) 0 ≡ blockAt self a j))
+Inv-loop stacks first self sizes room k₀ k = (k ≤ sizes) × (anyTo k (offTop self stacks (widerBy (first .0))) ≡ false)
 
 abbrev μ-loop : tie.MeasureT-loop
-μ-loop stacks a self bmin sizes room k₀ k = sizes - k
+μ-loop stacks first self sizes room k₀ k = sizes - k
 
-sub-sizes : tie.Need-sub-sizes Inv-loop μ-loop
-sub-sizes c = omega (arith, c .before .before .pre .numbers)
+-- the top of stack k is in the table
+inside : (c : tie.In-loop Inv-loop μ-loop)
+    → (let a = c .before .before .before .before .before .args in let v = a .t1 in
+    (c .before .loop .k * v .order .room + v .order .room ≤ length (a .stacks .now)) × (1 ≤ v .order .room))
+inside c =
+    let s = c .before .before .before .before .before in
+    let v = s .args .t1 in
+    (stack-fits v (length (s .args .stacks .now)) (countNeed (v .order)) (c .before .loop .k) (s .pre) (omega arith), omega (arith, s .pre .numbers))
 
-add-sizes : tie.Need-add-sizes Inv-loop μ-loop
-add-sizes c = omega (arith, c .before .before .pre .numbers)
+-- what the comparison tells
+told : (c : tie.After-struct-known2 Inv-loop μ-loop)
+    → (let at = c .before .before .before .before .before .before in
+    let a = at .before .before .before .before .before .args in
+    let k = at .before .loop .k in
+    let y = getD (a .stacks .now) (k * a .t1 .order .room) 0 in
+    leb 32 (trailingZeros 32 (bitXor (c .before .before .before .wider .result .0) y)) ≡ eqb (widerBy (a .first .0) k) y)
+told c =
+    let at = c .before .before .before .before .before .before in
+    let a = at .before .before .before .before .before .args in
+    let i = at .before .loop .k * a .t1 .order .room in
+    let y = getD (a .stacks .now) i 0 in
+    let x = c .before .before .before .wider in
+    let small : y < 4294967296 = omega (arith, c .before .before .shared-slice-known2 .given i) in
+    equal-by-bits (x .result .0) y (omega arith) small ∙ ap (λ (z : ℕ). eqb z y) (x .ensures)
 
-cast-sizes : tie.Need-cast-sizes Inv-loop μ-loop
-cast-sizes c = omega (arith, c .before .before .pre .numbers)
-
-cast-room : tie.Need-cast-room Inv-loop μ-loop
-cast-room c = search needs
-
-loop-holds : tie.Need-loop-holds Inv-loop μ-loop
-loop-holds c = (c .before .before .before .pre, omega arith, λ j h. absurd (omega arith))
-
-mul-if1 : tie.Need-mul-if1 Inv-loop μ-loop
-mul-if1 c = search needs
-
-element-copy-out-if1 : tie.Need-element-copy-out-if1 Inv-loop μ-loop
-element-copy-out-if1 c = search needs
+-- ---- the returns and the turn
 
 returns : tie.Need-returns Inv-loop μ-loop
-returns c = λ e. absurd (false≢true e)
-
-mul-if2 : tie.Need-mul-if2 Inv-loop μ-loop
-mul-if2 c =
-    let s = c .before .before .before .before .before .before .before in
-    let a = s .args in
+returns c =
+    let at = c .before .before .before in
+    let a = at .before .before .before .before .args in
     let v = a .t1 in
-    let l = c .before .before .before .loop in
-    let f = l .inv .0 in
-    omega (arith, f .numbers, stack-fits v (length (a .stacks .now)) (countNeed (v .order)) (l .k) f (omega arith))
-
-mul-if2-2 : tie.Need-mul-if2-2 Inv-loop μ-loop
-mul-if2-2 c =
-    let s = c .before .before .before .before .before .before .before in
-    let a = s .args in
-    let v = a .t1 in
-    let l = c .before .before .before .loop in
-    let f = l .inv .0 in
-    omega (arith, f .numbers, stack-fits v (length (a .stacks .now)) (countNeed (v .order)) (l .k) f (omega arith))
-
-shared-slice-read-if2 : tie.Need-shared-slice-read-if2 Inv-loop μ-loop
-shared-slice-read-if2 c =
-    let s = c .before .before .before .before .before .before .before .before in
-    let a = s .args in
-    let v = a .t1 in
-    let l = c .before .before .before .before .loop in
-    let f = l .inv .0 in
-    omega (arith, f .numbers, stack-fits v (length (a .stacks .now)) (countNeed (v .order)) (l .k) f (omega arith))
-
-cast-if2 : tie.Need-cast-if2 Inv-loop μ-loop
-cast-if2 c =
-    let s = c .before .before .before .before .before .before .before .before in
-    let a = s .args in
-    let v = a .t1 in
-    let l = c .before .before .before .before .loop in
-    let f = l .inv .0 in
-    omega (arith, f .numbers)
-
-add-if2 : tie.Need-add-if2 Inv-loop μ-loop
-add-if2 c =
-    let s = c .before .before .before .before .before .before .before .before in
-    let a = s .args in
-    let v = a .t1 in
-    let l = c .before .before .before .before .loop in
-    let f = l .inv .0 in
-    omega (arith, f .numbers)
-
-shr-if2 : tie.Need-shr-if2 Inv-loop μ-loop
-shr-if2 c =
-    let s = c .before .before .before .before .before .before .before .before in
-    let a = s .args in
-    let v = a .t1 in
-    let l = c .before .before .before .before .loop in
-    let f = l .inv .0 in
-    omega (arith, f .numbers)
+    let off = offTop v (a .stacks .now) (widerBy (a .first .0)) in
+    simp (any-yes (sizesOf (v .order)) (at .loop .k) off (omega arith) (simp (eq-eqb (usedOf v (at .loop .k)) 0 (c .if1 .taken))))
 
 returns-2 : tie.Need-returns-2 Inv-loop μ-loop
-returns-2 c = λ e. absurd (false≢true e)
-
-add-k : tie.Need-add-k Inv-loop μ-loop
-add-k c = search needs
-
-loop-less : tie.Need-loop-less Inv-loop μ-loop
-loop-less c = search needs
+returns-2 c =
+    let at = c .before .before .before .before .before .before .before .before in
+    let a = at .before .before .before .before .args in
+    let v = a .t1 in
+    let off = offTop v (a .stacks .now) (widerBy (a .first .0)) in
+    let other = sym (told (c .before)) ∙ lt-leb 32 _ (c .if2 .taken) in
+    let some = ne-eqb (usedOf v (at .loop .k)) 0 (c .before .before .before .before .before .if1 .left) in
+    simp (any-yes (sizesOf (v .order)) (at .loop .k) off (omega arith) (simp (some, other)))
 
 loop-again : tie.Need-loop-again Inv-loop μ-loop
-unfolding blockOf
 loop-again c =
-    let s = c .before .before .before .before .before .before .before .before .before in
-    let a = s .args in
+    let at = c .before .before .before .before .before .before .before .before in
+    let a = at .before .before .before .before .args in
     let v = a .t1 in
-    let l = c .before .before .before .before .before .loop in
-    let f = l .inv .0 in
-    (f, omega arith, below-more (λ (k : ℕ). (0 < usedOf v k) × (getD (a .stacks .now) (k * v .order .room) 0 ≡ blockAt v (a .a) k)) (l .k) (l .inv .2) (omega (arith, c .before .before .if1 .left), c .if2 .left))
+    let off = offTop v (a .stacks .now) (widerBy (a .first .0)) in
+    let same = sym (told (c .before)) ∙ le-leb 32 _ (c .if2 .left) in
+    let some = ne-eqb (usedOf v (at .loop .k)) 0 (c .before .before .before .before .before .if1 .left) in
+    (omega arith, any-more (at .loop .k) off (at .loop .inv .1) (simp (some, same)))
 
 returns-3 : tie.Need-returns-3 Inv-loop μ-loop
 returns-3 c =
-    let l = c .before .loop in
-    λ e k h. l .inv .2 k (omega (arith, c .loop-test .left))
+    let at = c .before in
+    let a = at .before .before .before .before .args in
+    let v = a .t1 in
+    let off = offTop v (a .stacks .now) (widerBy (a .first .0)) in
+    simp (any-ended (sizesOf (v .order)) (at .loop .k) off (omega arith) (omega arith) (at .loop .inv .1))
 
+-- closed by search
 pub is-on-top-spec : {M : Type 1} → statement M
 is-on-top-spec =
     tie.close
     (tie.spec
     Inv-loop
     μ-loop
-    sub-sizes
-    add-sizes
-    cast-sizes
-    cast-room
-    loop-holds
-    mul-if1
-    element-copy-out-if1
+    (λ c κs. search needs)
+    (λ c. search needs)
+    (λ c. (omega arith, any-none _))
+    (λ c. search needs)
+    (λ c. search needs)
     returns
-    mul-if2
-    mul-if2-2
-    shared-slice-read-if2
-    cast-if2
-    add-if2
-    shr-if2
+    (λ c. search needs)
+    (λ c κs. search needs)
+    (λ c. omega (arith, inside (c .before .before .before)))
+    (λ c. omega (arith, inside (c .before .before .before)))
+    (λ c. omega (arith, inside (c .before .before .before .before)))
     returns-2
-    add-k
-    loop-less
+    (λ c. search needs)
+    (λ c. search needs)
     loop-again
     returns-3)

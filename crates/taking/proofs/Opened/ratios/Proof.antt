@@ -6,9 +6,6 @@ use Rattle.taking.proofs.RatioLaws.{rated-refused, rated-none, rated-gi
 use Rattle.taking.proofs.Opened.ratios.Statement.{statement}
 use Rattle.taking.proofs.Opened.ratios.Tie as tie
 
-misses-requires : tie.Need-misses-requires
-misses-requires c κs = search needs
-
 returns : tie.Need-returns
 returns c =
     let a = c .before .before .before .before .args in
@@ -26,7 +23,8 @@ rated-requires c κs =
     let a = c .before .before .before .before .before .args in
     let m = c .before .before .before .misses in
     let some : a .self .taken ≡ 0 → ⊥ = c .if2 .left in
-    (omega (arith, some), counted-small (a .self) (a .counts .now) (a .b .0) (a .s) (a .w) (rw (m .ensures) at (c .before .if1 .left)) .0)
+    let small = counted-small (a .self) (a .counts .now) (a .b .0) (a .s) (a .w) (rw (m .ensures) at (c .before .if1 .left)) in
+    (omega (arith, some), small .0)
 
 returns-3 : tie.Need-returns-3
 returns-3 c =
@@ -34,5 +32,6 @@ returns-3 c =
     let m = c .before .before .before .before .misses in
     rw (c .rated .ensures) (rated-given _ (m .result) (a .self .taken) (a .b .0) (m .ensures) (c .before .before .if1 .left) (c .before .if2 .left))
 
+-- closed by search
 pub ratios-spec : {M : Type 1} → statement M
-ratios-spec = tie.close (tie.spec misses-requires returns returns-2 rated-requires returns-3)
+ratios-spec = tie.close (tie.spec (λ c κs. search needs) returns returns-2 rated-requires returns-3)

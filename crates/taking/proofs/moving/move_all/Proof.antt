@@ -1,150 +1,153 @@
 -- `move_all` meets its contract: the stacks passed have their blocks on top, and a stack to come is as it was. Assumes nothing.
 use Prim.Native.Nat.{ℕ, _≤_, _<_, _-_, _+_, _*_}
 use mathlib.Core.Path.{_≡_, refl, sym, ap, _∙_}
-use mathlib.Core.List.{List, _∷_}
+use mathlib.Core.List.{List}
 use native.Mathlib.Omega.{arith}
 use lib.ListN.{length, getD, set, length-set}
-use Rattle.lists.specs.Tables.{writeAt, writtenRows, setLengths}
-use Rattle.lists.specs.Members.{above, remove}
-use Rattle.lists.proofs.PartLaws.{row-in, rows-none, rows-more, lengths-none, lengths-more, lengths-past}
-use Rattle.cache.specs.Cache.{blockOf}
-use Rattle.taking.specs.Parts.{toppedBy}
-use Rattle.taking.proofs.MoveLaws.{roomy-of, part-same}
 use borrow.Author.Needs.{needs}
+use Rattle.lists.specs.Members.{above}
+use Rattle.lists.specs.Tables.{part, writeAt, writtenRows, setLengths}
+use Rattle.lists.proofs.PartLaws.{row-in, rows-none, rows-more, lengths-none, lengths-more, lengths-past}
+use Rattle.taking.specs.Parts.{widerBy, toppedAt, toppedBy, Stopped}
+use Rattle.taking.proofs.MoveLaws.{roomy-of, part-same, topped-same}
 use Rattle.taking.proofs.moving.move_all.Statement.{statement}
 use Rattle.taking.proofs.moving.move_all.Tie as tie
 
+-- k of the n stacks have their blocks on top
+record Moving (n room : ℕ) (x : ℕ → ℕ) (st us : List ℕ) (k : ℕ) (st′ us′ : List ℕ) : Type 0 where
+  upto : k ≤ n
+  long : length st′ ≡ length st
+  stacks : st′ ≡ writtenRows room (toppedBy room x st us) k st
+  eight : length us′ ≡ length us
+  used : us′ ≡ setLengths (toppedBy room x st us) k us
+
 abbrev Inv-loop : tie.InvT-loop
-Inv-loop stacks₀ used₀ places sizes room bmin a k₀ stacks used k =
-    (k ≤ sizes) × (length stacks ≡ length stacks₀) × (stacks ≡ writtenRows room (toppedBy room bmin stacks₀ used₀ a) k stacks₀)
-    × (length used ≡ length used₀) × (used ≡ setLengths (toppedBy room bmin stacks₀ used₀ a) k used₀)
+Inv-loop stacks₀ used₀ places sizes room first k₀ stacks used k = Moving sizes room (widerBy (first .0)) stacks₀ used₀ k stacks used
 
 abbrev μ-loop : tie.MeasureT-loop
-μ-loop stacks₀ used₀ places sizes room bmin a k₀ stacks used k = sizes - k
+μ-loop stacks₀ used₀ places sizes room first k₀ stacks used k = sizes - k
+
+-- ---- at size k
+
+-- its row is in the table
+inside : (c : tie.In-loop Inv-loop μ-loop)
+    → (let a = c .before .before .before .before .before .args in let k = c .before .loop .k in k * a .room + a .room ≤ a .sizes * a .room)
+inside c =
+    let a = c .before .before .before .before .before .args in
+    row-in (c .before .loop .k) (a .sizes) (a .room) (c .loop-test .taken)
+
+-- its used length is as it was
+kept : (c : tie.In-loop Inv-loop μ-loop)
+    → (let a = c .before .before .before .before .before .args in let l = c .before .loop in getD (l .used) (l .k) 0 ≡ getD (a .used .now) (l .k) 0)
+kept c =
+    let a = c .before .before .before .before .before .args in
+    let l = c .before .loop in
+    ap (λ (z : List ℕ). getD z (l .k) 0) (l .inv .used)
+    ∙ lengths-past (toppedBy (a .room) (widerBy (a .first .0)) (a .stacks .now) (a .used .now)) (a .used .now) (l .k) (l .k) (omega arith)
+
+-- and so is its stack
+module _ (c : tie.In-loop Inv-loop μ-loop) where
+  same : (let a = c .before .before .before .before .before .args in let l = c .before .loop in
+      part (l .k * a .room) (getD (l .used) (l .k) 0) (l .stacks) ≡ part (l .k * a .room) (getD (a .used .now) (l .k) 0) (a .stacks .now))
+  same =
+      let s = c .before .before .before .before .before in
+      let a = s .args in
+      let l = c .before .loop in
+      part-same (a .sizes) (a .room) (widerBy (a .first .0)) (a .stacks .now) (a .used .now) (a .places .now) (s .pre) (l .k) (c .loop-test .taken)
+      (l .stacks) (l .inv .stacks) (getD (l .used) (l .k) 0) (kept c)
+
+  topped : (let a = c .before .before .before .before .before .args in let l = c .before .loop in
+      toppedAt (l .k * a .room) (getD (l .used) (l .k) 0) (widerBy (a .first .0) (l .k)) (l .stacks)
+      ≡ toppedBy (a .room) (widerBy (a .first .0)) (a .stacks .now) (a .used .now) (l .k))
+  topped =
+      let s = c .before .before .before .before .before in
+      let a = s .args in
+      let l = c .before .loop in
+      topped-same (a .sizes) (a .room) (widerBy (a .first .0)) (a .stacks .now) (a .used .now) (a .places .now) (s .pre) (l .k) (c .loop-test .taken)
+      (l .stacks) (l .inv .stacks) (getD (l .used) (l .k) 0) (kept c)
+
+-- ---- the turns
 
 loop-holds : tie.Need-loop-holds Inv-loop μ-loop
 loop-holds c =
     let a = c .before .before .before .args in
-    (omega arith, refl, rows-none (a .room) (toppedBy (a .room) (a .bmin) (a .stacks .now) (a .used .now) (a .a)) (a .stacks .now), refl, lengths-none (toppedBy (a .room) (a .bmin) (a .stacks .now) (a .used .now) (a .a)) (a .used .now))
-
-cast-x : tie.Need-cast-x Inv-loop μ-loop
-cast-x c = search needs
-
-add-x : tie.Need-add-x Inv-loop μ-loop
-add-x c = search needs
-
-shr-x : tie.Need-shr-x Inv-loop μ-loop
-shr-x c = search needs
-
-mul-move-one : tie.Need-mul-move-one Inv-loop μ-loop
-mul-move-one c =
-    let s = c .before .before .before .before .before .before in
-    let a = s .args in
-    let l = c .before .before .loop in
-    let h : l .k < a .sizes = c .before .loop-test .taken in
-    let inside = row-in (l .k) (a .sizes) (a .room) h in
-    omega (arith, s .pre .0)
-
-mul-move-one-2 : tie.Need-mul-move-one-2 Inv-loop μ-loop
-mul-move-one-2 c = search needs
-
-slice-read-move-one : tie.Need-slice-read-move-one Inv-loop μ-loop
-slice-read-move-one c = search needs
-
-cast-move-one : tie.Need-cast-move-one Inv-loop μ-loop
-cast-move-one c =
-    let s = c .before .before .before .before .before .before .before in
-    let a = s .args in
-    let l = c .before .before .before .loop in
-    let h : l .k < a .sizes = c .before .before .loop-test .taken in
-    let inside = row-in (l .k) (a .sizes) (a .room) h in
-    let used : getD (l .used) (l .k) 0 ≡ getD (a .used .now) (l .k) 0 = ap (λ (z : List ℕ). getD z (l .k) 0) (l .inv .4) ∙ lengths-past (toppedBy (a .room) (a .bmin) (a .stacks .now) (a .used .now) (a .a)) (a .used .now) (l .k) (l .k) (omega arith) in
-    omega (arith, s .pre .0, s .pre .1 (l .k) h .0)
-
-mul-move-one-3 : tie.Need-mul-move-one-3 Inv-loop μ-loop
-mul-move-one-3 c = search needs
-
-shared-slice-read-move-one : tie.Need-shared-slice-read-move-one Inv-loop μ-loop
-shared-slice-read-move-one c = search needs
-
-cast-move-one-2 : tie.Need-cast-move-one-2 Inv-loop μ-loop
-cast-move-one-2 c = omega (arith, c .shared-slice-known2 .given (c .before .before .before .before .loop .k))
+    let top = toppedBy (a .room) (widerBy (a .first .0)) (a .stacks .now) (a .used .now) in
+    record {
+      upto = omega arith;
+      long = refl;
+      stacks = rows-none (a .room) top (a .stacks .now);
+      eight = refl;
+      used = lengths-none top (a .used .now);
+    }
 
 move-one-requires : tie.Need-move-one-requires Inv-loop μ-loop
-unfolding blockOf
 move-one-requires c κs =
-    let s = c .before .before .before .before .before .before .before .before in
+    let at = c .before .before .before .before in
+    let s = at .before .before .before .before .before in
     let a = s .args in
-    let l = c .before .before .before .before .loop in
-    let h : l .k < a .sizes = c .before .before .before .loop-test .taken in
-    let inside = row-in (l .k) (a .sizes) (a .room) h in
-    let used : getD (l .used) (l .k) 0 ≡ getD (a .used .now) (l .k) 0 = ap (λ (z : List ℕ). getD z (l .k) 0) (l .inv .4) ∙ lengths-past (toppedBy (a .room) (a .bmin) (a .stacks .now) (a .used .now) (a .a)) (a .used .now) (l .k) (l .k) (omega arith) in
-    let same = part-same (a .room) (a .bmin) (a .sizes) (a .stacks .now) (a .used .now) (a .places .now) (a .a) (s .pre .1) (s .pre .0 .3) (l .k) h (l .stacks) (l .inv .2) (getD (l .used) (l .k) 0) used in
-    let small = s .pre .1 (l .k) h in (
-      omega (arith, s .pre .0, small .0, l .inv .1),
-      small .2 ∙ ap (λ (q : List ℕ). length (above (blockOf (a .bmin + l .k) (a .a)) q)) (sym same),
-      omega (arith, s .pre .0, small .1, l .inv .1),
-    )
+    let l = at .before .loop in
+    let h : l .k < a .sizes = at .loop-test .taken in
+    let x = c .before .before .before .wider in
+    rw (x .ensures) (record {
+      inside = omega (arith, inside at, kept at, s .pre .used (l .k) h, s .pre .long, l .inv .long);
+      place = s .pre .place (l .k) h ∙ ap (λ (q : List ℕ). length (above (widerBy (a .first .0) (l .k)) q)) (sym (same at));
+      room = omega (arith, inside at, s .pre .below (l .k) h, s .pre .long, l .inv .long);
+    })
+
+-- the length that comes back, and the stacks
+moved : (c : tie.After-move-one Inv-loop μ-loop)
+    → (let a = c .before .before .before .before .before .before .before .before .before .before .args in
+    let l = c .before .before .before .before .before .before .loop in
+    let top = toppedBy (a .room) (widerBy (a .first .0)) (a .stacks .now) (a .used .now) (l .k) in
+    (c .move-one .last .0 ≡ writeAt (l .k * a .room) top (l .stacks)) × (c .move-one .result ≡ length top))
+moved c =
+    let at = c .before .before .before .before .before in
+    let a = at .before .before .before .before .before .args in
+    let l = at .before .loop in
+    let call = c .move-one in
+    let x = c .before .before .before .before .wider .ensures in
+    let here = ap (λ (z : ℕ). toppedAt (l .k * a .room) (getD (l .used) (l .k) 0) z (l .stacks)) x ∙ topped at in
+    (call .ensures .stacks ∙ ap (λ (q : List ℕ). writeAt (l .k * a .room) q (l .stacks)) here, call .ensures .long ∙ ap length here)
 
 cast-used : tie.Need-cast-used Inv-loop μ-loop
-unfolding blockOf
 cast-used c =
-    let s = c .before .before .before .before .before .before .before .before .before .before .before in
+    let call = c .before .before in
+    let at = call .before .before .before .before .before in
+    let s = at .before .before .before .before .before in
     let a = s .args in
-    let l = c .before .before .before .before .before .before .before .loop in
-    let h : l .k < a .sizes = c .before .before .before .before .before .before .loop-test .taken in
-    let inside = row-in (l .k) (a .sizes) (a .room) h in
-    let used : getD (l .used) (l .k) 0 ≡ getD (a .used .now) (l .k) 0 = ap (λ (z : List ℕ). getD z (l .k) 0) (l .inv .4) ∙ lengths-past (toppedBy (a .room) (a .bmin) (a .stacks .now) (a .used .now) (a .a)) (a .used .now) (l .k) (l .k) (omega arith) in
-    let same = part-same (a .room) (a .bmin) (a .sizes) (a .stacks .now) (a .used .now) (a .places .now) (a .a) (s .pre .1) (s .pre .0 .3) (l .k) h (l .stacks) (l .inv .2) (getD (l .used) (l .k) 0) used in
-    let put = ap (λ (q : List ℕ). (blockOf (a .bmin + l .k) (a .a)) ∷ remove (blockOf (a .bmin + l .k) (a .a)) q) same in
-    let roomy = roomy-of (a .room) (a .bmin) (a .sizes) (a .stacks .now) (a .used .now) (a .places .now) (a .a) (s .pre .1) (l .k) h in
-    let long : c .before .before .move-one .result ≡ length ((toppedBy (a .room) (a .bmin) (a .stacks .now) (a .used .now) (a .a)) (l .k)) = c .before .before .move-one .ensures .1 ∙ ap length put in
-    omega (arith, s .pre .0)
-
-mul-used : tie.Need-mul-used Inv-loop μ-loop
-mul-used c = search needs
-
-slice-write-used : tie.Need-slice-write-used Inv-loop μ-loop
-slice-write-used c = search needs
-
-add-k : tie.Need-add-k Inv-loop μ-loop
-add-k c = search needs
-
-loop-less : tie.Need-loop-less Inv-loop μ-loop
-loop-less c = search needs
+    let h : at .before .loop .k < a .sizes = at .loop-test .taken in
+    let roomy = roomy-of (a .sizes) (a .room) (widerBy (a .first .0)) (a .stacks .now) (a .used .now) (a .places .now) (s .pre) (at .before .loop .k) h in
+    omega (arith, moved call .1, s .pre .small)
 
 loop-again : tie.Need-loop-again Inv-loop μ-loop
-unfolding blockOf
 loop-again c =
-    let s = c .before .before .before .before .before .before .before .before .before .before .before in
-    let a = s .args in
-    let l = c .before .before .before .before .before .before .before .loop in
-    let h : l .k < a .sizes = c .before .before .before .before .before .before .loop-test .taken in
-    let inside = row-in (l .k) (a .sizes) (a .room) h in
-    let used : getD (l .used) (l .k) 0 ≡ getD (a .used .now) (l .k) 0 = ap (λ (z : List ℕ). getD z (l .k) 0) (l .inv .4) ∙ lengths-past (toppedBy (a .room) (a .bmin) (a .stacks .now) (a .used .now) (a .a)) (a .used .now) (l .k) (l .k) (omega arith) in
-    let same = part-same (a .room) (a .bmin) (a .sizes) (a .stacks .now) (a .used .now) (a .places .now) (a .a) (s .pre .1) (s .pre .0 .3) (l .k) h (l .stacks) (l .inv .2) (getD (l .used) (l .k) 0) used in
-    let put = ap (λ (q : List ℕ). (blockOf (a .bmin + l .k) (a .a)) ∷ remove (blockOf (a .bmin + l .k) (a .a)) q) same in
-    let call = c .before .before .move-one in (
-      omega arith,
-      call .kept .0 ∙ l .inv .1,
-      rows-more (a .room) (toppedBy (a .room) (a .bmin) (a .stacks .now) (a .used .now) (a .a)) (a .stacks .now) (l .k) (l .stacks) (call .last .0) (l .inv .2) (call .ensures .0 ∙ ap (λ (q : List ℕ). writeAt (l .k * a .room) q (l .stacks)) put),
-      simp length-set (l .inv .3),
-      ap (λ (z : List ℕ). set z (l .k) (call .result)) (l .inv .4) ∙ lengths-more (toppedBy (a .room) (a .bmin) (a .stacks .now) (a .used .now) (a .a)) (a .used .now) (l .k) (call .result) (call .ensures .1 ∙ ap length put),
-    )
-
-same-length : tie.Need-same-length Inv-loop μ-loop
-same-length c = search needs
-
-same-length-2 : tie.Need-same-length-2 Inv-loop μ-loop
-same-length-2 c = search needs
+    let call = c .before .before in
+    let at = call .before .before .before .before .before in
+    let a = at .before .before .before .before .before .args in
+    let l = at .before .loop in
+    let top = toppedBy (a .room) (widerBy (a .first .0)) (a .stacks .now) (a .used .now) in
+    record {
+      upto = omega arith;
+      long = call .move-one .kept .0 ∙ l .inv .long;
+      stacks = rows-more (a .room) top (a .stacks .now) (l .k) (l .stacks) (call .move-one .last .0) (l .inv .stacks) (moved call .0);
+      eight = simp length-set (l .inv .eight);
+      used =
+          ap (λ (z : List ℕ). set z (l .k) (call .move-one .result)) (l .inv .used)
+          ∙ lengths-more top (a .used .now) (l .k) (call .move-one .result) (moved call .1);
+    }
 
 returns : tie.Need-returns Inv-loop μ-loop
 returns c =
     let a = c .before .before .before .before .before .args in
     let l = c .before .loop in
     let e : l .k ≡ a .sizes = omega arith in
-    (l .inv .2 ∙ ap (λ (n : ℕ). writtenRows (a .room) (toppedBy (a .room) (a .bmin) (a .stacks .now) (a .used .now) (a .a)) n (a .stacks .now)) e, l .inv .4 ∙ ap (λ (n : ℕ). setLengths (toppedBy (a .room) (a .bmin) (a .stacks .now) (a .used .now) (a .a)) n (a .used .now)) e)
+    let top = toppedBy (a .room) (widerBy (a .first .0)) (a .stacks .now) (a .used .now) in
+    record {
+      stacks = l .inv .stacks ∙ ap (λ (n : ℕ). writtenRows (a .room) top n (a .stacks .now)) e;
+      used = l .inv .used ∙ ap (λ (n : ℕ). setLengths top n (a .used .now)) e;
+    }
 
+-- closed by search
 pub move-all-spec : {M : Type 1} → statement M
 move-all-spec =
     tie.close
@@ -152,23 +155,22 @@ move-all-spec =
     Inv-loop
     μ-loop
     loop-holds
-    cast-x
-    add-x
-    shr-x
-    mul-move-one
-    mul-move-one-2
-    slice-read-move-one
-    cast-move-one
-    mul-move-one-3
-    shared-slice-read-move-one
-    cast-move-one-2
+    (λ c. search needs)
+    (λ c κs. search needs)
+    (λ c. omega (arith, inside (c .before .before)))
+    (λ c. search needs)
+    (λ c. search needs)
+    (λ c. omega (arith, kept (c .before .before .before), c .before .before .before .before .before .before .before .before .pre .used (c .before .before .before .before .loop .k) (c .before .before .before .loop-test .taken)))
+    (λ c. search needs)
+    (λ c. search needs)
+    (λ c. omega (arith, c .shared-slice-known2 .given (c .before .before .before .before .before .loop .k)))
     move-one-requires
     cast-used
-    mul-used
-    slice-write-used
-    add-k
-    loop-less
+    (λ c. search needs)
+    (λ c. search needs)
+    (λ c. search needs)
+    (λ c. search needs)
     loop-again
-    same-length
-    same-length-2
+    (λ c. search needs)
+    (λ c. search needs)
     returns)

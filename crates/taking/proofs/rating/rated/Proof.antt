@@ -6,23 +6,17 @@ use Rattle.taking.proofs.RoundingLaws.{miss-once, traffic-once}
 use Rattle.taking.proofs.rating.rated.Statement.{statement}
 use Rattle.taking.proofs.rating.rated.Tie as tie
 
-int-to-float-miss : tie.Need-int-to-float-miss
-int-to-float-miss c = search needs
-
-int-to-float-miss-2 : tie.Need-int-to-float-miss-2
-int-to-float-miss-2 c = search needs
-
-shl-bytes : tie.Need-shl-bytes
-shl-bytes c = search needs
-
-int-to-float-bytes : tie.Need-int-to-float-bytes
-int-to-float-bytes c = search needs
-
 returns : tie.Need-returns
 returns c =
-    let a = c .before .before .before .args in
-    simp (bit (a .b) (omega arith), miss-once (a .misses) (a .taken) (a .b) (omega arith) (omega arith) (omega arith) (omega arith), traffic-once (a .misses) (a .taken) (a .b) (omega arith) (omega arith) (omega arith) (omega arith))
+    let a = c .before .before .before .before .args in
+    let m = a .misses in
+    let b = a .b .0 in
+    simp (
+      bit b (omega arith),
+      miss-once m (a .taken) b (omega arith) (omega arith) (omega arith) (omega arith),
+      traffic-once m (a .taken) b (omega arith) (omega arith) (omega arith) (omega arith),
+    )
 
+-- closed by search
 pub rated-spec : {M : Type 1} → statement M
-rated-spec =
-    tie.close (tie.spec int-to-float-miss int-to-float-miss-2 shl-bytes int-to-float-bytes returns)
+rated-spec = tie.close (tie.spec (λ c. search needs) (λ c. search needs) (λ c. search needs) (λ c. search needs) returns)
