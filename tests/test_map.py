@@ -46,7 +46,7 @@ class Map(unittest.TestCase):
 
     def test_each_function_and_vector_is_there(self):
         functions = names(r"\bfn (\w+)")
-        vectors = [path.stem for path in ROOT.glob("tests/vectors/*.in")]
+        vectors = [path.stem for path in ROOT.glob("tests/vectors/*/*.in")]
         for name in QUOTED:
             if re.fullmatch(r"[a-z0-9]+(_[a-z0-9]+)*_?\*|[a-z0-9]+(_[a-z0-9]+)+", name):
                 pattern = name.replace("*", ".*")

@@ -1,11 +1,6 @@
 #!/usr/bin/env python3
-"""Checks simulator.py and library_model.py against the numbers that document 01 prints, and against each other.
-
-Also checks that each vector is what the simulator prints and has its row in README.md.
-"""
-import pathlib
+"""Checks simulator.py and library_model.py against the numbers that document 01 prints, and against each other."""
 import random
-import re
 import unittest
 
 import library_model as library
@@ -146,23 +141,6 @@ class Agreement(unittest.TestCase):
                         )
                 kept = simulator.strip(addresses, bmin, s)
                 self.assertEqual(library.strip(addresses, bmin, s, [1] * 8, [0] * len(kept))[3], kept)
-
-
-class Vectors(unittest.TestCase):
-    HERE = pathlib.Path(__file__).resolve().parent
-
-    def test_outputs(self):
-        for path in self.HERE.glob("vectors/*.in"):
-            self.assertEqual(simulator.sweep(path.read_bytes()), path.with_suffix(".out").read_bytes(), path.stem)
-
-    def test_rows(self):
-        rows = dict(re.findall(r"^\| (\w+) \| (table|\d+ at line \d+) \|", (self.HERE / "README.md").read_text(), re.M))
-        self.assertEqual(sorted(rows), sorted(path.stem for path in self.HERE.glob("vectors/*.in")))
-        self.assertEqual(sorted(rows), sorted(path.stem for path in self.HERE.glob("vectors/*.out")))
-        for name, answer in rows.items():
-            output = (self.HERE / "vectors" / (name + ".out")).read_text()
-            refusal = re.fullmatch(r"refused=(\d+) line=(\d+)\n", output)
-            self.assertEqual(answer, "%s at line %s" % refusal.groups() if refusal else "table", name)
 
 
 if __name__ == "__main__":
