@@ -1,5 +1,5 @@
 #!/usr/bin/env python3
-"""Checks simulator.py and library_model.py against the numbers that document 01 prints, and against each other."""
+"""Checks simulator.py and library_model.py against the numbers of docs/SCOPE.md, and against each other."""
 import random
 import unittest
 

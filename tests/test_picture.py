@@ -1,5 +1,5 @@
 #!/usr/bin/env python3
-"""Runs scripts/picture.py on the worked table of document 01, on its grid, and on damaged tables."""
+"""Runs scripts/picture.py on the worked table (SCOPE, "The worked trace"), on its grid, and on damaged tables."""
 import pathlib
 import subprocess
 import sys

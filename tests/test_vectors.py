@@ -22,14 +22,15 @@ class Stored(unittest.TestCase):
         self.assertEqual(ended.returncode, 0, ended.stdout + ended.stderr)
 
     def test_rows(self):
-        """Each vector has one row, below the heading that names its folder, and an input and an output."""
-        rows, folder = [], None
+        """Each vector has one row, below the heading that names its folder, and an input, an output and a sentence of SCOPE."""
+        rows, folder, scope = [], None, (ROOT / "docs/SCOPE.md").read_text()
         for line in (ROOT / "tests/README.md").read_text().splitlines():
             heading = re.fullmatch(r"## .*: `(\w+)/`", line)
             folder = heading.group(1) if heading else folder
-            row = re.match(r"\| (\w+) \| (table|\d+ at line \d+) \|", line)
+            row = re.match(r"\| (\w+) \| (?:table|\d+ at line \d+) \| (\w+) \| ", line)
             if row:
                 rows.append("%s/%s" % (folder, row.group(1)))
+                self.assertRegex(scope, r"\*\*%s\.?\*\*" % row.group(2), line)
         for ending in ("in", "out"):
             there = ROOT.glob("tests/vectors/*/*." + ending)
             self.assertEqual(sorted(rows), sorted("%s/%s" % (path.parent.name, path.stem) for path in there))
