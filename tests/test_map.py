@@ -2,8 +2,9 @@
 """Holds docs/MAP.md to docs/SCOPE.md and to the repository.
 
 Every named sentence of SCOPE has its row, every name in the map is there (in the page that the map gives for it), and every
-must-fail edit has a row. Also: each citation of SCOPE, in the whole repository, names a section or a sentence that it has, and the
-table of crates in docs/DESIGN.md is that of crates.txt. What is gone is listed whole, so that one run tells all that is to be mended.
+must-fail edit has a row. Also of the other pages: each citation of SCOPE, in the whole repository, names a section or a sentence that
+it has; the table of crates in docs/DESIGN.md is that of crates.txt; links lead somewhere. What is gone is listed whole, so that one
+run tells all that is to be mended.
 """
 import pathlib
 import re
@@ -111,7 +112,9 @@ class Map(unittest.TestCase):
         self.assertEqual(gone, [])
 
 
-class Design(unittest.TestCase):
+class Pages(unittest.TestCase):
+    maxDiff = None
+
     def test_the_table_has_every_crate(self):
         listed = re.findall(r"^(\w+):", (ROOT / "crates.txt").read_text(), re.MULTILINE)
         shown = re.findall(r"^\| \[(\w+)\]\(../crates/\w+\) \|", (ROOT / "docs/DESIGN.md").read_text(), re.MULTILINE)
@@ -121,9 +124,12 @@ class Design(unittest.TestCase):
         for name in ("DESIGN", "OPEN-CASES"):
             self.assertEqual(list(unknown((ROOT / "docs" / (name + ".md")).read_text())), [], name)
 
-
-class Citations(unittest.TestCase):
-    maxDiff = None
+    def test_each_link_leads_somewhere(self):
+        gone = []
+        for path in [ROOT / "README.md", *ROOT.glob("docs/**/*.md"), *ROOT.glob("*/README.md")]:
+            links = re.findall(r"\]\((?!https?:)([^)#]+)", path.read_text())
+            gone += ["%s: %s" % (path.relative_to(ROOT), link) for link in links if not (path.parent / link).exists()]
+        self.assertEqual(gone, [])
 
     def test_what_is_cited_is_there(self):
         """SCOPE, "Section", or SCOPE and the name of a sentence."""
