@@ -1,11 +1,13 @@
-"""Inputs for the sweep program beyond the stored vectors: fixed ones by name, and random ones by seed.
+"""Inputs for the sweep program: the stored ones and where their outputs stand, fixed ones by name, and random ones by seed.
 
 Random traces use few blocks in few sets, so that they collide, and small rooms and ceilings, so that 5 and 6 come.
 About half of the random inputs are then damaged: bytes flipped, inserted or deleted, lines repeated, moved or
 dropped, the end cut off.
 """
+import pathlib
 import random
 
+ROOT = pathlib.Path(__file__).resolve().parent.parent
 ORDER = [b"bmin=4", b"bmax=4", b"smax=1", b"ways=2", b"room=8", b"refs=100"]
 BEGIN = b"begin=din"
 HEAD = b"\n".join(ORDER + [BEGIN, b""])
@@ -15,6 +17,13 @@ NUMBERS_AT_A_LIMIT = [
     0, 1, 2, 7, 8, 9, 12, 13, 14, 15, 16, 17, 1024, 1025, 2730, 2731, 4096, 4097, 8192, 8193, 1048576, 1048577,
     4000000000, 4000000001, 2**32 + 2, 2**32 + 8, 9999999999, 10000000000,
 ]  # fmt: skip
+
+
+def stored_inputs():
+    """Pairs of files: an input, and the whole output that is expected: the vectors, the samples, the program's own run."""
+    for stored in sorted(ROOT.glob("tests/vectors/*/*.in")) + sorted(ROOT.glob("samples/*.in")):
+        yield stored, stored.with_suffix(".out")
+    yield ROOT / "crates/sweep/stdin", ROOT / "crates/sweep/stdout"
 
 
 def fixed_inputs():

@@ -1,5 +1,5 @@
 #!/usr/bin/env python3
-"""An independent simulator, written from document 01's definition of a cache and its line formats.
+"""An independent simulator, written from SCOPE, "The cache being counted" and "Program, order lines and din lines".
 
 It is meant to be obviously right. Each cache is simulated by itself, with a list of blocks for each set.
 There are no stacks here and no counts by depth.

@@ -1,8 +1,5 @@
 #!/usr/bin/env python3
-"""Checks simulator.py and library_model.py against the numbers that document 01 prints, and against each other.
-
-Also checks that each vector is what the simulator prints and has its row in README.md.
-"""
+"""Checks simulator.py and library_model.py against the numbers of docs/SCOPE.md, and against each other."""
 import pathlib
 import random
 import re
@@ -11,6 +8,8 @@ import unittest
 import library_model as library
 import simulator
 
+ROOT = pathlib.Path(__file__).resolve().parent.parent
+SCOPE = (ROOT / "docs/SCOPE.md").read_text()
 WORKED = [0x0, 0x10, 0x20, 0x0, 0x14, 0x40, 0x0, 0x20]
 ORDER = (4, 5, 2, 4, 8, 100)
 GRID = {  # misses of w = 1, 2, 3, 4, by (b, s)
@@ -26,6 +25,32 @@ def opened(order, addresses):
         assert answer == 0
         answer, state, stack, counts = library.take(state, stack, counts, address)
     return answer, state, stack, counts
+
+
+class Printed(unittest.TestCase):
+    """What docs/SCOPE.md prints, and what others print of it."""
+
+    def test_worked_input(self):
+        """The input on the left gives the output on the right, in SCOPE.md and in README.md."""
+        for page in (SCOPE, (ROOT / "README.md").read_text()):
+            lines = re.search(r"(?m)(?:^    .*\n)+", page[page.index("    bmin=4  ") :]).group().splitlines()
+            pairs = [re.fullmatch(r"    (\S+(?: \S+)?)(?: {2,}(\S.*))?", line).groups() for line in lines]
+            data, printed = ("".join(half + "\n" for half in halves if half).encode() for halves in zip(*pairs))
+            self.assertEqual(simulator.sweep(data), printed)
+            self.assertEqual(data, (ROOT / "tests/vectors/worked/worked_input.in").read_bytes())
+
+    def test_grid(self):
+        rows = re.findall(r"(?m)^\| (4|5) \| ([\d ]+) \| ([\d ]+) \| ([\d ]+) \|$", SCOPE)
+        printed = {(int(b), s): list(map(int, cell.split())) for b, *cells in rows for s, cell in enumerate(cells)}
+        self.assertEqual(printed, GRID)
+
+    def test_refusal_numbers(self):
+        """The numbers of SCOPE's table are those of the code, and README.md has advice for each refusal."""
+        printed = [int(number) for number in re.findall(r"(?m)^\| \*\*R\d+\*\* \| (\d+) \|", SCOPE)]
+        coded = re.findall(r"pub const \w+: u32 = (\d+);", (ROOT / "crates/units/src/refusal.rt").read_text())
+        self.assertEqual(sorted(map(int, coded)), printed)
+        advised = re.findall(r"(?m)^\| (\d+) \|", (ROOT / "README.md").read_text())
+        self.assertEqual(list(map(int, advised)), printed[1:])
 
 
 class WorkedTrace(unittest.TestCase):
@@ -146,23 +171,6 @@ class Agreement(unittest.TestCase):
                         )
                 kept = simulator.strip(addresses, bmin, s)
                 self.assertEqual(library.strip(addresses, bmin, s, [1] * 8, [0] * len(kept))[3], kept)
-
-
-class Vectors(unittest.TestCase):
-    HERE = pathlib.Path(__file__).resolve().parent
-
-    def test_outputs(self):
-        for path in self.HERE.glob("vectors/*.in"):
-            self.assertEqual(simulator.sweep(path.read_bytes()), path.with_suffix(".out").read_bytes(), path.stem)
-
-    def test_rows(self):
-        rows = dict(re.findall(r"^\| (\w+) \| (table|\d+ at line \d+) \|", (self.HERE / "README.md").read_text(), re.M))
-        self.assertEqual(sorted(rows), sorted(path.stem for path in self.HERE.glob("vectors/*.in")))
-        self.assertEqual(sorted(rows), sorted(path.stem for path in self.HERE.glob("vectors/*.out")))
-        for name, answer in rows.items():
-            output = (self.HERE / "vectors" / (name + ".out")).read_text()
-            refusal = re.fullmatch(r"refused=(\d+) line=(\d+)\n", output)
-            self.assertEqual(answer, "%s at line %s" % refusal.groups() if refusal else "table", name)
 
 
 if __name__ == "__main__":

@@ -1,5 +1,5 @@
 #!/usr/bin/env python3
-"""Runs scripts/picture.py on the worked table of document 01, on its grid, and on damaged tables."""
+"""Runs scripts/picture.py on the worked table (SCOPE, "The worked trace"), on its grid, and on damaged tables."""
 import pathlib
 import subprocess
 import sys
@@ -8,8 +8,8 @@ import xml.etree.ElementTree as ElementTree
 
 ROOT = pathlib.Path(__file__).resolve().parent.parent
 SVG = "{http://www.w3.org/2000/svg}"
-WORKED = (ROOT / "tests/vectors/worked_input.out").read_text()
-GRID = (ROOT / "tests/vectors/worked_grid.out").read_text()
+WORKED = (ROOT / "tests/vectors/worked/worked_input.out").read_text()
+GRID = (ROOT / "tests/vectors/worked/worked_grid.out").read_text()
 WORDS = """\
 8 references taken, 0 lines skipped.
 
