@@ -1,11 +1,13 @@
 /* Kkaeduron's library calls for C: exact miss counts of LRU caches from references taken one by one, and a stripper.
  *
- * Document 01 says what each call does; docs/LINKING.md says how to link. Every call returns, for any numbers and any
- * contents of the slices, and its answer, the state and all slices afterwards are determined and proved (crates/capi).
+ * docs/SCOPE.md says what each call does; docs/LINKING.md says how to link. Every call returns, for any numbers and any
+ * contents of what it is lent, with one of the answers below; the answer, the state and all that was lent are then
+ * determined and proved (crates/capi).
  *
- * A slice is a pointer and then its length in entries. What the caller owes, and nothing checks: the length is that of
- * the memory behind the pointer, the pointer is aligned for its entries, and no slice that a call writes overlaps
- * another slice of that call. A slice of length 0 may have any pointer.
+ * A slice is a pointer and then its length in entries. What has a fixed size (a state, the ratios, a number that the call
+ * writes) is a pointer alone. What the caller owes, and nothing checks: behind a pointer is memory of that length or size,
+ * the pointer is aligned for its entries, and nothing that a call writes overlaps anything else that it is lent. A slice
+ * of length 0 may have any pointer.
  */
 #ifndef KKAEDURON_H
 #define KKAEDURON_H
@@ -30,10 +32,6 @@ extern "C" {
 #define KKAEDURON_NO_REFERENCES 9  /* ratio asked with no references taken */
 #define KKAEDURON_SHORT_FILTER 12  /* filter table shorter than 2^s entries */
 #define KKAEDURON_SHORT_OUTPUT 13  /* output shorter than the references kept */
-
-/* This boundary's own answer, which document 01 does not list: a slice whose length is fixed (state 15, misses 1,
- * ratios 2, kept 1) has another length. It comes before all others, and nothing is touched. */
-#define KKAEDURON_OTHER_LENGTH 255
 
 /* The limits of an order's numbers. At most 8 block sizes, so bmax - bmin is at most 7. */
 #define KKAEDURON_B_LEAST 2 /* bmin and bmax: blocks of 2^b bytes */
@@ -68,46 +66,49 @@ enum kkaeduron_state_place {
 #define KKAEDURON_COUNTS_NEEDED(bmin, bmax, smax, ways) (((size_t)(bmax) - (bmin) + 1) * ((size_t)(smax) + 1) * (ways))
 
 /* Opens an order: zeroes what it needs of both tables, and writes the state, with 0 taken and every used length 0.
- * Refused with 255, 1, 2, 3. A refusal leaves both tables as they were and, but for 255, a state of zeros. */
+ * Refused with 1, 2, 3. A refusal leaves both tables as they were and a state of zeros. */
 uint32_t kkaeduron_open(uint32_t bmin, uint32_t bmax, uint32_t smax, uint32_t ways, uint32_t room, uint32_t refs,
-                        uint32_t *state, size_t state_length,
+                        uint32_t state[KKAEDURON_STATE_NUMBERS],
                         uint32_t *stacks, size_t stacks_length,
                         uint32_t *counts, size_t counts_length);
 
 /* Takes a reference to an address. At each block size, where its block is in the stack, the count for (b, s, depth)
  * goes up by one for each s with depth below ways; then the block goes to the top. Taken goes up by one.
- * Refused with 255, 1, 2, 3, 4, 5, 6, 7. A refusal leaves the state and both tables as they were.
+ * Refused with 1, 2, 3, 4, 5, 6, 7. A refusal leaves the state and both tables as they were.
  * 4 and 7 never come after an opening with the state handed on and the tables left alone (proved). */
-uint32_t kkaeduron_take(uint32_t *state, size_t state_length,
+uint32_t kkaeduron_take(uint32_t state[KKAEDURON_STATE_NUMBERS],
                         uint32_t *stacks, size_t stacks_length,
                         uint32_t *counts, size_t counts_length,
                         uint32_t address);
 
-/* The misses of the cache (b, s, w), blocks of 2^b bytes, 2^s sets and w ways, go to misses[0]: taken less the counts
- * at depths 0 to w - 1. Refused with 255, 1, 3, 4, 8, 7; but for 255, misses[0] is then 0. */
-uint32_t kkaeduron_misses(const uint32_t *state, size_t state_length,
+/* The misses of the cache (b, s, w), blocks of 2^b bytes, 2^s sets and w ways, go to *misses: taken less the counts at
+ * depths 0 to w - 1. Refused with 1, 3, 4, 8, 7; *misses is then 0. A question leaves the state and the counts as they
+ * are, refused or not. */
+uint32_t kkaeduron_misses(const uint32_t state[KKAEDURON_STATE_NUMBERS],
                           const uint32_t *counts, size_t counts_length,
                           uint32_t b, uint32_t s, uint32_t w,
-                          uint32_t *misses, size_t misses_length);
+                          uint32_t *misses);
 
-/* The miss ratio of (b, s, w), misses divided by taken and rounded once, goes to ratios[0]; the traffic ratio, 2^b
- * times it, goes to ratios[1]. Refused as misses are, then with 9; but for 255, both are then 0. */
-uint32_t kkaeduron_ratios(const uint32_t *state, size_t state_length,
+/* The two ratios of (b, s, w): the miss ratio, misses divided by taken and rounded once, and the traffic ratio, 2^b
+ * times it. Refused as misses are, then with 9; both are then 0. */
+#define KKAEDURON_BOTH_RATIOS 2
+enum kkaeduron_ratio_place { KKAEDURON_MISS_RATIO, KKAEDURON_TRAFFIC_RATIO };
+uint32_t kkaeduron_ratios(const uint32_t state[KKAEDURON_STATE_NUMBERS],
                           const uint32_t *counts, size_t counts_length,
                           uint32_t b, uint32_t s, uint32_t w,
-                          double *ratios, size_t ratios_length);
+                          double ratios[KKAEDURON_BOTH_RATIOS]);
 
 /* Strips a list of addresses: those that miss in the cache of blocks of 2^b bytes, 2^s sets and 1 way go to the front
- * of out, in order, and how many they are goes to kept[0]. The rest of out is untouched. filter[i] is then the last
- * block of set i plus one, or 0 where none came; what it held before does not matter, and the entries from 2^s on are
- * untouched. b is 2 to 12 and s 0 to 14.
- * Refused with 255, 1, 12, 13; but for 255, kept[0] is then 0. A refusal leaves filter and out as they were, but 13
- * leaves the first 2^s entries of filter zero. */
+ * of out, in order, and how many they are goes to *kept. The rest of out is untouched. filter[i] is then the last block
+ * of set i plus one, or 0 where none came; what it held before does not matter, and the entries from 2^s on are
+ * untouched. b and s are within an order's limits for them.
+ * Refused with 1, 12, 13; *kept is then 0. A refusal leaves filter and out as they were, but 13 leaves the first 2^s
+ * entries of filter zero. */
 uint32_t kkaeduron_strip(const uint32_t *list, size_t list_length,
                          uint32_t b, uint32_t s,
                          uint32_t *filter, size_t filter_length,
                          uint32_t *out, size_t out_length,
-                         size_t *kept, size_t kept_length);
+                         size_t *kept);
 
 #ifdef __cplusplus
 }

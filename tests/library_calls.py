@@ -7,7 +7,8 @@ A sequence is a list of steps. A step is a tuple: a word, its numbers and its sl
     ("misses", b, s, w, misses)                          ("ratios", b, s, w, ratios)
     ("strip", b, s, addresses, filter, output, kept)
 
-Calls after one another work on the same slices. Random addresses use few blocks in few sets, so that they collide, and
+A state has 15 entries, `misses` and `kept` one and `ratios` two, for what is lent by its pointer alone. Before `tables` the
+state is of zeros and the tables are empty. Calls after one another work on the same slices. Random addresses use few blocks in few sets, so that they collide, and
 small rooms and ceilings, so that 5 and 6 come.
 """
 import itertools
@@ -18,13 +19,13 @@ import library_model as library
 import simulator
 
 STATE_NUMBERS = 15
-OTHER_LENGTH = 255  # the answer of the C interface, not of document 01, where a slice has not the length that is fixed
+FIXED = {("tables", 1), ("misses", 4), ("ratios", 4), ("strip", 6)}  # the places of a step whose length is fixed
 ANSWERS = {
-    "open": {0, 1, 2, 3, OTHER_LENGTH},
-    "take": {0, 1, 2, 3, 4, 5, 6, 7, OTHER_LENGTH},
-    "misses": {0, 1, 3, 4, 8, 7, OTHER_LENGTH},
-    "ratios": {0, 1, 3, 4, 8, 7, 9, OTHER_LENGTH},
-    "strip": {0, 1, 12, 13, OTHER_LENGTH},
+    "open": {0, 1, 2, 3},
+    "take": {0, 1, 2, 3, 4, 5, 6, 7},
+    "misses": {0, 1, 3, 4, 8, 7},
+    "ratios": {0, 1, 3, 4, 8, 7, 9},
+    "strip": {0, 1, 12, 13},
 }
 TELLING_NUMBERS = [
     0, 1, 2, 3, 4, 7, 8, 9, 12, 13, 14, 15, 16, 17, 1048576, 1048577, 2**31 - 1, 2**31, 4000000000, 4000000001,
@@ -56,7 +57,7 @@ class Sequence:
 
     def __init__(self, steps=()):
         self.steps, self.lines, self.answers = [], [], []
-        self.state, self.stacks, self.counts = [], [], []
+        self.state, self.stacks, self.counts = [0] * STATE_NUMBERS, [], []
         self.history = None  # the references taken since an opening, all handed on; None where something is foreign
         for step in steps:
             self.add(*step)
@@ -72,55 +73,42 @@ class Sequence:
         self.lines.append("answer %d " % answer + " ".join(name + " " + slice_text(part) for name, part in slices))
 
     def open(self, *order):
-        answer = OTHER_LENGTH
-        if len(self.state) == STATE_NUMBERS:
-            answer, state, self.stacks, self.counts = library.open_(order, self.stacks, self.counts)
-            self.state = numbers_of(state)
-            self.history = None if answer else []
+        answer, state, self.stacks, self.counts = library.open_(order, self.stacks, self.counts)
+        self.state = numbers_of(state)
+        self.history = None if answer else []
         return answer, self.tables()
 
     def take(self, address):
-        answer = OTHER_LENGTH
-        if len(self.state) == STATE_NUMBERS:
-            given = state_of(self.state)
-            answer, state, self.stacks, self.counts = library.take(given, self.stacks, self.counts, address)
-            self.state = numbers_of(state)
+        given = state_of(self.state)
+        answer, state, self.stacks, self.counts = library.take(given, self.stacks, self.counts, address)
+        self.state = numbers_of(state)
         if self.history is not None:
             agree(answer not in (4, 7), "4 and 7 never come after an opening")
             self.history += [] if answer else [address]
         return answer, self.tables()
 
     def misses(self, b, s, w, misses):
-        answer = OTHER_LENGTH
-        if len(self.state) == STATE_NUMBERS and len(misses) == 1:
-            answer, _, missed, _ = library.misses(state_of(self.state), self.counts, b, s, w)
-            if self.history is not None and answer == 0:
-                agree(missed == simulator.misses(self.history, b, s, w), "misses of %d, %d, %d" % (b, s, w))
-            misses = [missed]
-        return answer, [("misses", misses), ("state", self.state), ("counts", self.counts)]
+        answer, state, missed, counts = library.misses(state_of(self.state), self.counts, b, s, w)
+        if self.history is not None and answer == 0:
+            agree(missed == simulator.misses(self.history, b, s, w), "misses of %d, %d, %d" % (b, s, w))
+        return answer, [("misses", [missed]), ("state", numbers_of(state)), ("counts", counts)]
 
     def ratios(self, b, s, w, ratios):
-        answer = OTHER_LENGTH
-        if len(self.state) == STATE_NUMBERS and len(ratios) == 2:
-            answer, _, both, _ = library.ratios(state_of(self.state), self.counts, b, s, w)
-            ratios = list(map(bits_of, both))
-        return answer, [("ratios", ratios), ("state", self.state), ("counts", self.counts)]
+        answer, state, both, counts = library.ratios(state_of(self.state), self.counts, b, s, w)
+        return answer, [("ratios", list(map(bits_of, both))), ("state", numbers_of(state)), ("counts", counts)]
 
     def strip(self, b, s, addresses, filter_, output, kept):
-        answer = OTHER_LENGTH
-        if len(kept) == 1:
-            answer, count, filter_, output = library.strip(addresses, b, s, filter_, output)
-            kept = [count]
-            if answer == 0:
-                agree(output[:count] == simulator.strip(addresses, b, s), "strip at %d, %d" % (b, s))
-        return answer, [("kept", kept), ("list", addresses), ("filter", filter_), ("out", output)]
+        answer, count, filter_, output = library.strip(addresses, b, s, filter_, output)
+        if answer == 0:
+            agree(output[:count] == simulator.strip(addresses, b, s), "strip at %d, %d" % (b, s))
+        return answer, [("kept", [count]), ("list", addresses), ("filter", filter_), ("out", output)]
 
     def tables(self):
         return [("state", self.state), ("stacks", self.stacks), ("counts", self.counts)]
 
 
 class ModelsDiffer(Exception):
-    """The model of the library and the simulator, or a sentence of document 01, disagree: the model is wrong."""
+    """The model of the library and the simulator, or a sentence of SCOPE, disagree: the model is wrong."""
 
 
 def agree(holds, about):
@@ -158,8 +146,7 @@ def fixed_sequences():
     yield "openings, refused for several reasons", openings_refused_in_order()
     yield "takings, refused for several reasons", takings_refused_in_order()
     yield "questions, refused for several reasons", questions_refused_in_order()
-    for length in (0, 1, 14, 16, 30):
-        yield "a state of %d numbers" % length, all_calls_on([4, 4, 1, 2, 8, 100, *[0] * 24][:length])
+    yield "calls before an opening", [("take", 0), ("misses", 4, 0, 1, [9]), ("ratios", 4, 0, 1, [1, 2])]
 
 
 def opened(order):
@@ -173,17 +160,11 @@ def takes(addresses):
     return [("take", address) for address in addresses]
 
 
-def all_calls_on(state):
-    questions = [(word, 4, 0, 1, [9] * length) for word in ("misses", "ratios") for length in (0, 1, 2, 3)]
-    return [("tables", state, [5] * 9, [6] * 5), *takes([0]), *questions, ("open", 4, 4, 1, 2, 8, 100), *takes([0])]
-
-
 def strips_with_short_slices():
     for b, s in [(1, 2), (13, 2), (4, 15), (4, 2), (2**32 - 1, 0), (4, 2**32 - 1)]:
         for filter_length in (0, 3, 4, 5):
             for output_length in (0, 4, 5, 6):
-                for kept in ([], [9], [9, 9]):
-                    yield "strip", b, s, WORKED, [7] * filter_length, [8] * output_length, kept
+                yield "strip", b, s, WORKED, [7] * filter_length, [8] * output_length, [9]
 
 
 def openings_refused_in_order():
@@ -276,10 +257,9 @@ def stripped(rng, sequence):
         held = [block // 2**b + 1 for block in pool] + TELLING_NUMBERS  # a filter that remembers would keep less
         filter_ = [rng.choice(held) for _ in range(near(rng, 2**s))]
         output = [telling(rng) for _ in range(near(rng, len(simulator.strip(addresses, b, s))))]
-        kept = [rng.getrandbits(64) for _ in range(rng.choice([1] * 12 + [0, 2]))]
         if rng.random() < 0.08:
             b, s = rng.choice([(telling(rng), s), (b, telling(rng))])
-        sequence.add("strip", b, s, addresses, filter_, output, kept)
+        sequence.add("strip", b, s, addresses, filter_, output, [rng.getrandbits(64)])
 
 
 def random_order(rng):
@@ -324,24 +304,24 @@ def ask(rng, sequence, order):
     asked = [rng.randint(order[0], order[1]), rng.randint(0, order[2]), rng.randint(1, order[3])]
     if rng.random() < 0.15:
         asked[rng.randrange(3)] = rng.choice([order[0] - 1, order[1] + 1, order[2] + 1, order[3] + 1, 0, telling(rng)])
-    word, length = rng.choice([("misses", 1), ("ratios", 2)])
-    if rng.random() < 0.03:
-        length = rng.choice([0, length - 1, length + 1])
-    sequence.add(word, *asked, [telling(rng) if word == "misses" else rng.getrandbits(64) for _ in range(length)])
+    if rng.random() < 0.5:
+        sequence.add("misses", *asked, [telling(rng)])
+    else:
+        sequence.add("ratios", *asked, [rng.getrandbits(64), rng.getrandbits(64)])
 
 
 def damage(rng, state, stacks, counts):
     """Changes one thing in the slices."""
-    way = rng.randrange(8)
-    if way == 0 and state:
+    way = rng.randrange(7)
+    if way == 0:
         state[rng.randrange(len(state))] = telling(rng)
-    elif way == 1 and len(state) == STATE_NUMBERS:
+    elif way == 1:
         state[6] = narrow(rng.choice([state[6] - 1, state[6] - 2, state[5], state[5] - 1, state[5] + 1, *counts[:9]]))
-    elif way == 2 and len(state) == STATE_NUMBERS:
+    elif way == 2:
         state[rng.randrange(7, 15)] = narrow(state[4] + rng.choice([-1, 0, 0, 1]))
     elif way == 3 and stacks:
         stacks[rng.randrange(len(stacks))] = rng.choice([stacks[0], stacks[-1], rng.choice(stacks), telling(rng)])
-    elif way == 4 and counts and len(state) == STATE_NUMBERS:
+    elif way == 4 and counts:
         for _ in range(rng.randint(1, 6)):
             counts[rng.randrange(len(counts))] = narrow(state[6] + rng.choice([-2, -1, 0, 1]))
     elif way == 5 and counts:
@@ -349,8 +329,6 @@ def damage(rng, state, stacks, counts):
     elif way == 6:
         table = rng.choice([stacks, counts])
         table[:] = table[: near(rng, len(table))] + [telling(rng)] * rng.randint(0, 1)
-    elif way == 7 and rng.random() < 0.3:
-        state[:] = (state + [0])[: rng.choice([0, 7, 14, 16])]
 
 
 def near(rng, length):

@@ -8,7 +8,8 @@
  *   strip B S LIST FILTER OUT KEPT
  *
  * Numbers are decimal. A slice is its length and then its entries. It lies between guard bytes, and an empty one has the
- * pointer NULL. A line of output is the answer and then each slice that the call was lent, by name, in the form above;
+ * pointer NULL. So does what has a fixed size (STATE 15 entries, MISSES and KEPT 1, RATIOS 2), of which a call is handed
+ * the pointer alone; before a `tables` line the state is of zeros and the tables are empty. A line of output is the answer and then each slice that the call was lent, by name, in the form above;
  * it ends in "outside touched" where a guard byte has changed.
  */
 #include <stdint.h>
@@ -95,19 +96,34 @@ static void *entries(const struct slice *slice)
     return slice->length ? slice->memory + GUARD_BYTES : NULL;
 }
 
-static struct slice next_slice(size_t width)
+/* A slice of zeros. */
+static struct slice new_slice(size_t width, size_t length)
 {
-    struct slice slice = {0, width, next_number()};
-    size_t bytes = slice.length * width;
-    slice.memory = malloc(bytes + 2 * GUARD_BYTES);
+    struct slice slice = {malloc(length * width + 2 * GUARD_BYTES), width, length};
     if (!slice.memory)
         stop("no memory");
-    memset(slice.memory, GUARD, bytes + 2 * GUARD_BYTES);
+    memset(slice.memory, GUARD, length * width + 2 * GUARD_BYTES);
+    memset(slice.memory + GUARD_BYTES, 0, length * width);
+    return slice;
+}
+
+static struct slice next_slice(size_t width)
+{
+    struct slice slice = new_slice(width, next_number());
     for (size_t i = 0; i < slice.length; i++) {
         uint64_t wide = width == 8 ? next_number() : 0;
         uint32_t narrow = width == 8 ? 0 : next_narrow();
         memcpy(slice.memory + GUARD_BYTES + i * width, width == 8 ? (void *)&wide : (void *)&narrow, width);
     }
+    return slice;
+}
+
+/* What has a fixed size: a slice of that length. */
+static struct slice next_fixed(size_t width, size_t length)
+{
+    struct slice slice = next_slice(width);
+    if (slice.length != length)
+        stop("what has a fixed size has another");
     return slice;
 }
 
@@ -165,7 +181,7 @@ static void call_open(void)
     for (size_t i = 0; i < 6; i++)
         numbers[i] = next_narrow();
     print_answer(kkaeduron_open(numbers[0], numbers[1], numbers[2], numbers[3], numbers[4], numbers[5], entries(&state),
-                                state.length, entries(&stacks), stacks.length, entries(&counts), counts.length));
+                                entries(&stacks), stacks.length, entries(&counts), counts.length));
     print_slice(" state", &state);
     print_slice(" stacks", &stacks);
     print_slice(" counts", &counts);
@@ -174,8 +190,8 @@ static void call_open(void)
 static void call_take(void)
 {
     uint32_t address = next_narrow();
-    print_answer(kkaeduron_take(entries(&state), state.length, entries(&stacks), stacks.length, entries(&counts),
-                                counts.length, address));
+    print_answer(kkaeduron_take(entries(&state), entries(&stacks), stacks.length, entries(&counts), counts.length,
+                                address));
     print_slice(" state", &state);
     print_slice(" stacks", &stacks);
     print_slice(" counts", &counts);
@@ -184,13 +200,11 @@ static void call_take(void)
 static void call_question(int is_ratios)
 {
     uint32_t b = next_narrow(), s = next_narrow(), w = next_narrow();
-    struct slice value = next_slice(is_ratios ? 8 : 4);
+    struct slice value = is_ratios ? next_fixed(8, KKAEDURON_BOTH_RATIOS) : next_fixed(4, 1);
     if (is_ratios)
-        print_answer(kkaeduron_ratios(entries(&state), state.length, entries(&counts), counts.length, b, s, w,
-                                      entries(&value), value.length));
+        print_answer(kkaeduron_ratios(entries(&state), entries(&counts), counts.length, b, s, w, entries(&value)));
     else
-        print_answer(kkaeduron_misses(entries(&state), state.length, entries(&counts), counts.length, b, s, w,
-                                      entries(&value), value.length));
+        print_answer(kkaeduron_misses(entries(&state), entries(&counts), counts.length, b, s, w, entries(&value)));
     print_slice(is_ratios ? " ratios" : " misses", &value);
     print_slice(" state", &state);
     print_slice(" counts", &counts);
@@ -200,9 +214,10 @@ static void call_question(int is_ratios)
 static void call_strip(void)
 {
     uint32_t b = next_narrow(), s = next_narrow();
-    struct slice list = next_slice(4), filter = next_slice(4), out = next_slice(4), kept = next_slice(sizeof(size_t));
+    struct slice list = next_slice(4), filter = next_slice(4), out = next_slice(4);
+    struct slice kept = next_fixed(sizeof(size_t), 1);
     print_answer(kkaeduron_strip(entries(&list), list.length, b, s, entries(&filter), filter.length, entries(&out),
-                                 out.length, entries(&kept), kept.length));
+                                 out.length, entries(&kept)));
     print_slice(" kept", &kept);
     print_slice(" list", &list);
     print_slice(" filter", &filter);
@@ -218,7 +233,7 @@ static void lend_tables(void)
     free(state.memory);
     free(stacks.memory);
     free(counts.memory);
-    state = next_slice(4);
+    state = next_fixed(4, KKAEDURON_STATE_NUMBERS);
     stacks = next_slice(4);
     counts = next_slice(4);
 }
@@ -226,6 +241,7 @@ static void lend_tables(void)
 int main(void)
 {
     char word[16];
+    state = new_slice(4, KKAEDURON_STATE_NUMBERS);
     while (next_word(word, sizeof word)) {
         if (!strcmp(word, "tables")) {
             lend_tables();

@@ -1,6 +1,6 @@
 """What each library call must hand back, for any state and any lent tables, foreign ones too.
 
-Written from document 01: "The stack and the counts", "The order's numbers", "Refusal numbers", "Questions"
+Written from SCOPE, "The stack and the counts", "The order's numbers", "Refusal numbers", "Questions"
 and "Strip". A caller may lend any stack table, so for these calls the stack method itself is the definition.
 Tables are lists of 32-bit numbers. No list that is handed in is changed: each call returns the tables as they
 must be afterwards. Each call returns its answer number first.

@@ -1,4 +1,4 @@
-/* The worked trace of document 01 through the library: its misses, the ratios of one cache, a strip, and a refusal. */
+/* The worked trace of docs/SCOPE.md through the library: its misses, the ratios of one cache, a strip, and a refusal. */
 #include <inttypes.h>
 #include <stdio.h>
 
@@ -27,12 +27,11 @@ static int refused(const char *call, uint32_t answer)
 
 static int take_all(void)
 {
-    if (refused("open", kkaeduron_open(BMIN, BMAX, SMAX, WAYS, ROOM, REFS, state, LENGTH(state), stacks, LENGTH(stacks),
-                                       counts, LENGTH(counts))))
+    if (refused("open", kkaeduron_open(BMIN, BMAX, SMAX, WAYS, ROOM, REFS, state, stacks, LENGTH(stacks), counts,
+                                       LENGTH(counts))))
         return 0;
     for (size_t i = 0; i < LENGTH(trace); i++)
-        if (refused("take", kkaeduron_take(state, LENGTH(state), stacks, LENGTH(stacks), counts, LENGTH(counts),
-                                           trace[i])))
+        if (refused("take", kkaeduron_take(state, stacks, LENGTH(stacks), counts, LENGTH(counts), trace[i])))
             return 0;
     printf("refs=%" PRIu32 "\n", state[KKAEDURON_TAKEN]);
     return 1;
@@ -40,27 +39,27 @@ static int take_all(void)
 
 static void print_misses(uint32_t b, uint32_t s, uint32_t w)
 {
-    uint32_t misses[1];
-    if (!refused("misses", kkaeduron_misses(state, LENGTH(state), counts, LENGTH(counts), b, s, w, misses, 1)))
-        printf("b=%" PRIu32 " s=%" PRIu32 " w=%" PRIu32 " misses=%" PRIu32 "\n", b, s, w, misses[0]);
+    uint32_t misses;
+    if (!refused("misses", kkaeduron_misses(state, counts, LENGTH(counts), b, s, w, &misses)))
+        printf("b=%" PRIu32 " s=%" PRIu32 " w=%" PRIu32 " misses=%" PRIu32 "\n", b, s, w, misses);
 }
 
 static void print_ratios(uint32_t b, uint32_t s, uint32_t w)
 {
-    double ratios[2];
-    if (!refused("ratios", kkaeduron_ratios(state, LENGTH(state), counts, LENGTH(counts), b, s, w, ratios, 2)))
-        printf("b=%" PRIu32 " s=%" PRIu32 " w=%" PRIu32 " miss ratio %.3f traffic ratio %.1f\n", b, s, w, ratios[0],
-               ratios[1]);
+    double ratios[KKAEDURON_BOTH_RATIOS];
+    if (!refused("ratios", kkaeduron_ratios(state, counts, LENGTH(counts), b, s, w, ratios)))
+        printf("b=%" PRIu32 " s=%" PRIu32 " w=%" PRIu32 " miss ratio %.3f traffic ratio %.1f\n", b, s, w,
+               ratios[KKAEDURON_MISS_RATIO], ratios[KKAEDURON_TRAFFIC_RATIO]);
 }
 
 static void print_stripped(uint32_t b, uint32_t s)
 {
     uint32_t filter[4], out[LENGTH(trace)];
-    size_t kept[1];
-    if (refused("strip", kkaeduron_strip(trace, LENGTH(trace), b, s, filter, LENGTH(filter), out, LENGTH(out), kept, 1)))
+    size_t kept;
+    if (refused("strip", kkaeduron_strip(trace, LENGTH(trace), b, s, filter, LENGTH(filter), out, LENGTH(out), &kept)))
         return;
     printf("strip b=%" PRIu32 " s=%" PRIu32 " keeps", b, s);
-    for (size_t i = 0; i < kept[0]; i++)
+    for (size_t i = 0; i < kept; i++)
         printf(" %" PRIx32, out[i]);
     printf("\n");
 }

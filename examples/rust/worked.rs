@@ -1,34 +1,36 @@
-//! The worked trace of document 01 through the library: its misses, the ratios of one cache, a strip, and a refusal.
+//! The worked trace of docs/SCOPE.md through the library: its misses, the ratios of one cache, a strip, and a refusal.
 
-/// The static library, as include/kkaeduron.h declares it: a slice is a pointer and then its length.
+/// The static library, as include/kkaeduron.h declares it: a slice is a pointer and then its length, and what has a
+/// fixed size is a reference.
 mod kkaeduron {
     #[rustfmt::skip]
     extern "C" {
         fn kkaeduron_open(
             bmin: u32, bmax: u32, smax: u32, ways: u32, room: u32, refs: u32,
-            state: *mut u32, state_length: usize, stacks: *mut u32, stacks_length: usize, counts: *mut u32, counts_length: usize,
+            state: &mut [u32; STATE_NUMBERS], stacks: *mut u32, stacks_length: usize, counts: *mut u32, counts_length: usize,
         ) -> u32;
         fn kkaeduron_take(
-            state: *mut u32, state_length: usize, stacks: *mut u32, stacks_length: usize, counts: *mut u32, counts_length: usize,
+            state: &mut [u32; STATE_NUMBERS], stacks: *mut u32, stacks_length: usize, counts: *mut u32, counts_length: usize,
             address: u32,
         ) -> u32;
         fn kkaeduron_misses(
-            state: *const u32, state_length: usize, counts: *const u32, counts_length: usize, b: u32, s: u32, w: u32,
-            misses: *mut u32, misses_length: usize,
+            state: &[u32; STATE_NUMBERS], counts: *const u32, counts_length: usize, b: u32, s: u32, w: u32, misses: &mut u32,
         ) -> u32;
         fn kkaeduron_ratios(
-            state: *const u32, state_length: usize, counts: *const u32, counts_length: usize, b: u32, s: u32, w: u32,
-            ratios: *mut f64, ratios_length: usize,
+            state: &[u32; STATE_NUMBERS], counts: *const u32, counts_length: usize, b: u32, s: u32, w: u32,
+            ratios: &mut [f64; 2],
         ) -> u32;
         fn kkaeduron_strip(
             list: *const u32, list_length: usize, b: u32, s: u32, filter: *mut u32, filter_length: usize,
-            out: *mut u32, out_length: usize, kept: *mut usize, kept_length: usize,
+            out: *mut u32, out_length: usize, kept: &mut usize,
         ) -> u32;
     }
 
+    const STATE_NUMBERS: usize = 15;
+
     /// An opened order with its two tables. Each method answers a refusal's number as the error.
     pub struct Opened {
-        state: [u32; 15],
+        state: [u32; STATE_NUMBERS],
         stacks: Vec<u32>,
         counts: Vec<u32>,
     }
@@ -54,7 +56,7 @@ mod kkaeduron {
             let stacks = vec![0; sizes * room.min(1 << 20) as usize];
             let counts = vec![0; sizes * (smax.min(14) as usize + 1) * ways.min(16) as usize];
             let mut opened = Opened {
-                state: [0; 15],
+                state: [0; STATE_NUMBERS],
                 stacks,
                 counts,
             };
@@ -68,8 +70,7 @@ mod kkaeduron {
                     ways,
                     room,
                     refs,
-                    state.as_mut_ptr(),
-                    state.len(),
+                    state,
                     stacks.as_mut_ptr(),
                     stacks.len(),
                     counts.as_mut_ptr(),
@@ -83,8 +84,7 @@ mod kkaeduron {
             let (state, stacks, counts) = (&mut self.state, &mut self.stacks, &mut self.counts);
             let answer = unsafe {
                 kkaeduron_take(
-                    state.as_mut_ptr(),
-                    state.len(),
+                    state,
                     stacks.as_mut_ptr(),
                     stacks.len(),
                     counts.as_mut_ptr(),
@@ -100,22 +100,12 @@ mod kkaeduron {
         }
 
         pub fn misses(&self, b: u32, s: u32, w: u32) -> Result<u32, u32> {
-            let mut misses = [0];
+            let mut misses = 0;
             let (state, counts) = (&self.state, &self.counts);
             let answer = unsafe {
-                kkaeduron_misses(
-                    state.as_ptr(),
-                    state.len(),
-                    counts.as_ptr(),
-                    counts.len(),
-                    b,
-                    s,
-                    w,
-                    misses.as_mut_ptr(),
-                    1,
-                )
+                kkaeduron_misses(state, counts.as_ptr(), counts.len(), b, s, w, &mut misses)
             };
-            done(answer, misses[0])
+            done(answer, misses)
         }
 
         /// The miss ratio and the traffic ratio.
@@ -123,17 +113,7 @@ mod kkaeduron {
             let mut ratios = [0.0; 2];
             let (state, counts) = (&self.state, &self.counts);
             let answer = unsafe {
-                kkaeduron_ratios(
-                    state.as_ptr(),
-                    state.len(),
-                    counts.as_ptr(),
-                    counts.len(),
-                    b,
-                    s,
-                    w,
-                    ratios.as_mut_ptr(),
-                    2,
-                )
+                kkaeduron_ratios(state, counts.as_ptr(), counts.len(), b, s, w, &mut ratios)
             };
             done(answer, ratios)
         }
@@ -143,7 +123,7 @@ mod kkaeduron {
     pub fn strip(list: &[u32], b: u32, s: u32) -> Result<Vec<u32>, u32> {
         let mut filter = vec![0; 1 << s.min(14)];
         let mut out = vec![0; list.len()];
-        let mut kept = [0];
+        let mut kept = 0;
         let answer = unsafe {
             kkaeduron_strip(
                 list.as_ptr(),
@@ -154,11 +134,10 @@ mod kkaeduron {
                 filter.len(),
                 out.as_mut_ptr(),
                 out.len(),
-                kept.as_mut_ptr(),
-                1,
+                &mut kept,
             )
         };
-        out.truncate(kept[0]);
+        out.truncate(kept);
         done(answer, out)
     }
 }

@@ -1,12 +1,10 @@
--- The library's calls as C makes them: a state crosses as 15 numbers, and a value handed back beside an answer as a short slice.
--- A slice of another length than the call asks is this boundary's own refusal, and nothing is touched. Assumes nothing.
+-- The library's calls as C makes them (SCOPE, "Calls from C"): a state crosses as 15 numbers, and what stands beside an answer goes to
+-- a number or two that the caller lends. Each call is the library's own; strip's contract is `Strips` itself. Assumes nothing.
 use Prim.Native.Nat.{ℕ}
 use mathlib.Core.Path.{_≡_}
-use mathlib.Core.Bool.{Bool, cond, _&&_}
 use mathlib.Core.List.{List, [], _∷_}
-use lib.Dec.{eqb}
 use lib.Ieee.{Float}
-use lib.ListN.{length, drop, getD}
+use lib.ListN.{drop, getD}
 use Rattle.lists.specs.Tests.{settled}
 use Rattle.cache.specs.Cache.{Given}
 use Rattle.order.specs.declared.Order.{Order}
@@ -17,7 +15,6 @@ use Rattle.taking.specs.Opening.{openAnswer, opened, unopened}
 use Rattle.taking.specs.Taking.{takeAnswer, taken}
 use Rattle.taking.specs.Questions.{missesOf}
 use Rattle.taking.specs.Ratios.{ratiosOf}
-use Rattle.strip.specs.Strip.{stripAnswer, stripKept, stripFilter, stripOutput}
 
 -- ---- what crosses
 
@@ -42,15 +39,10 @@ numbersOf v =
     ∷ v .taken
     ∷ v .used
 
--- the slice has n entries
-abbrev pub hasLength : {A : Type 0} → ℕ → List A → Bool
-hasLength n l = eqb (length l) n
-
--- the answer where some slice has another length than the call asks; document 01 does not list it
-abbrev pub otherLength : ℕ
-otherLength = 255
-
--- ---- opening and taking
+-- the state that the numbers say, and it says no others
+pub record Says (numbers : List ℕ) (v : Opened) : Type 0 where
+  pub state : v ≡ stateOf numbers
+  pub numbers-back : numbersOf v ≡ numbers
 
 -- what is lent: the numbers of a state, and both tables
 pub record Lent : Type 0 where
@@ -61,47 +53,42 @@ pub record Lent : Type 0 where
 abbrev pub lent : List ℕ → List ℕ → List ℕ → Lent
 lent l st ct = record { numbers = l; stacks = st; counts = ct }
 
--- the world that it says, and a world as it is lent
+-- the world that it says; its tables with no order opened yet; and a world as it is lent
 abbrev pub worldIn : Lent → World
 worldIn l = record { state = stateOf (l .numbers); stacks = l .stacks; counts = l .counts }
+
+abbrev pub tablesIn : Lent → World
+tablesIn l = unopened (l .stacks) (l .counts)
 
 abbrev pub lentBy : World → Lent
 lentBy w = record { numbers = numbersOf (w .state); stacks = w .stacks; counts = w .counts }
 
--- an opening that the library refuses leaves a state of zeros
-pub record CallsOpen (o : Order) (l : Lent) (n : ℕ) (l′ : Lent) : Type 0 where
-  pub answer : n ≡ cond (hasLength 15 (l .numbers)) (openAnswer o (worldIn l)) otherLength
-  pub left : l′ ≡ cond (hasLength 15 (l .numbers)) (lentBy (settled (openAnswer o (worldIn l)) (opened o (worldIn l)) (unopened (l .stacks) (l .counts)))) l
+-- ---- opening and taking
 
--- a taking that is refused, by the library or here, leaves all as it was
-abbrev pub takenAnswer : Lent → Given → ℕ
-takenAnswer l g = cond (hasLength 15 (l .numbers)) (takeAnswer (worldIn l) g) otherLength
+-- a call that answers `due` leaves `new` where that is 0, else `old`
+pub record Leaves (due : ℕ) (new old : Lent) (n : ℕ) (l′ : Lent) : Type 0 where
+  pub answer : n ≡ due
+  pub left : l′ ≡ settled due new old
 
-pub record CallsTake (l : Lent) (g : Given) (n : ℕ) (l′ : Lent) : Type 0 where
-  pub answer : n ≡ takenAnswer l g
-  pub left : l′ ≡ settled (takenAnswer l g) (lentBy (taken (worldIn l) g)) l
+-- a refused opening leaves a state of zeros, and both tables as they were
+abbrev pub CallsOpen : Order → Lent → ℕ → Lent → Type 0
+CallsOpen o l n l′ = Leaves (openAnswer o (tablesIn l)) (lentBy (opened o (tablesIn l))) (lentBy (tablesIn l)) n l′
 
--- ---- the questions
+-- a refused taking leaves all as it was
+abbrev pub CallsTake : Lent → Given → ℕ → Lent → Type 0
+CallsTake l g n l′ = Leaves (takeAnswer (worldIn l) g) (lentBy (taken (worldIn l) g)) l n l′
 
--- the misses go to a slice of one entry
-pub record CallsMisses (l ct : List ℕ) (b s w : ℕ) (out : List ℕ) (r : ℕ) (out′ : List ℕ) : Type 0 where
-  pub answer : r ≡ cond (hasLength 15 l && hasLength 1 out) (missesOf (stateOf l) ct b s w .answer) otherLength
-  pub misses : out′ ≡ cond (hasLength 15 l && hasLength 1 out) (missesOf (stateOf l) ct b s w .misses ∷ []) out
+-- ---- the questions: the state and the counts are as they were
+
+-- the misses m
+pub record CallsMisses (numbers ct : List ℕ) (b s w n m : ℕ) : Type 0 where
+  pub answer : n ≡ missesOf (stateOf numbers) ct b s w .answer
+  pub misses : m ≡ missesOf (stateOf numbers) ct b s w .misses
 
 -- the miss ratio, then the traffic ratio
 abbrev pub bothOf : Ratios → List Float
 bothOf q = q .miss ∷ q .traffic ∷ []
 
--- both ratios go to a slice of two entries
-pub record CallsRatios (l ct : List ℕ) (b s w : ℕ) (out : List Float) (r : ℕ) (out′ : List Float) : Type 0 where
-  pub answer : r ≡ cond (hasLength 15 l && hasLength 2 out) (ratiosOf (stateOf l) ct b s w .answer) otherLength
-  pub ratios : out′ ≡ cond (hasLength 15 l && hasLength 2 out) (bothOf (ratiosOf (stateOf l) ct b s w .ratios)) out
-
--- ---- strip
-
--- how many were kept goes to a slice of one entry
-pub record CallsStrip (l : List ℕ) (b s : ℕ) (table out n : List ℕ) (r : ℕ) (table′ out′ n′ : List ℕ) : Type 0 where
-  pub answer : r ≡ cond (hasLength 1 n) (stripAnswer l b s table out) otherLength
-  pub kept : n′ ≡ cond (hasLength 1 n) (stripKept l b s table out ∷ []) n
-  pub filter : table′ ≡ cond (hasLength 1 n) (stripFilter l b s table out) table
-  pub output : out′ ≡ cond (hasLength 1 n) (stripOutput l b s table out) out
+pub record CallsRatios (numbers ct : List ℕ) (b s w n : ℕ) (both : List Float) : Type 0 where
+  pub answer : n ≡ ratiosOf (stateOf numbers) ct b s w .answer
+  pub ratios : both ≡ bothOf (ratiosOf (stateOf numbers) ct b s w .ratios)

@@ -1,21 +1,21 @@
-// The library's calls for C and Rust: numbers and slices only. A slice crosses as a pointer and then
-// a length. The opened order crosses as a slice of 15 numbers: bmin, bmax, smax, ways, room, refs, the
-// references taken, and the used length of each stack. include/kkaeduron.h declares these functions.
+// The library's calls for C and Rust: numbers, slices and references to what has a fixed size. A slice
+// crosses as a pointer and then a length; a state, as a pointer to 15 numbers: bmin, bmax, smax, ways, room,
+// refs, the references taken, and the used length of each stack. include/kkaeduron.h declares these functions.
 use order::Order;
 use strip::strip;
 use taking::Opened;
 use units::Addr;
 use units::ByteExp;
 ghost use mathlib.Core.Path.{_≡_};
-ghost use lib.ListN.{length};
 ghost use Rattle.cache.specs.Cache.{ref};
-ghost use Rattle.capi.specs.Boundary.{stateOf, numbersOf, lent, CallsOpen, CallsTake, CallsMisses, CallsRatios, CallsStrip};
-
-// The answer where a slice has another length than the call asks. Document 01 does not list it.
-pub const OTHER_LENGTH: u32 = 255;
+ghost use Rattle.strip.specs.Strip.{Strips};
+ghost use Rattle.capi.specs.Boundary.{numbersOf, lent, Says, CallsOpen, CallsTake, CallsMisses, CallsRatios};
 
 // How many numbers a state has.
 pub const STATE_NUMBERS: usize = 15;
+
+// The miss ratio and the traffic ratio.
+pub const BOTH_RATIOS: usize = 2;
 
 // Opens an order over two tables, and puts the opened order into the state.
 #[no_mangle]
@@ -26,92 +26,78 @@ pub extern "C" fn kkaeduron_open(
     ways: u32,
     room: u32,
     refs: u32,
-    state: &mut [u32],
+    state: &mut [u32; STATE_NUMBERS],
     stacks: &mut [u32],
     counts: &mut [u32],
 ) -> u32
-    ensures { λ r. ⌜ CallsOpen (record { bmin = record { 0 = bmin }; bmax = record { 0 = bmax }; smax = smax; ways = ways; room = room; refs = refs }) (lent (now (state .entry)) (now (stacks .entry)) (now (counts .entry))) r (lent (now (state .exit)) (now (stacks .exit)) (now (counts .exit))) ⌝ }
+    ensures { λ r. ⌜ CallsOpen
+        (record { bmin = record { 0 = bmin }; bmax = record { 0 = bmax }; smax = smax; ways = ways; room = room; refs = refs })
+        (lent (now (state .entry)) (now (stacks .entry)) (now (counts .entry)))
+        r (lent (now (state .exit)) (now (stacks .exit)) (now (counts .exit))) ⌝ }
 {
-    if state.len() != STATE_NUMBERS {
-        return OTHER_LENGTH;
-    }
     let checked = Order::new(ByteExp(bmin), ByteExp(bmax), smax, ways, room, refs);
     let reply = Opened::open(checked.order, stacks, counts);
     let opened = reply.state;
-    put_state(opened, state);
+    *state = numbers_of(opened);
     reply.answer
 }
 
 // Takes a reference, and puts the state that is handed back in the place of the one that was handed in.
 #[no_mangle]
 pub extern "C" fn kkaeduron_take(
-    state: &mut [u32],
+    state: &mut [u32; STATE_NUMBERS],
     stacks: &mut [u32],
     counts: &mut [u32],
     addr: u32,
 ) -> u32
-    ensures { λ r. ⌜ CallsTake (lent (now (state .entry)) (now (stacks .entry)) (now (counts .entry))) (ref addr) r (lent (now (state .exit)) (now (stacks .exit)) (now (counts .exit))) ⌝ }
+    ensures { λ r. ⌜ CallsTake
+        (lent (now (state .entry)) (now (stacks .entry)) (now (counts .entry))) (ref addr)
+        r (lent (now (state .exit)) (now (stacks .exit)) (now (counts .exit))) ⌝ }
 {
-    if state.len() != STATE_NUMBERS {
-        return OTHER_LENGTH;
-    }
-    let handed = state_from(state);
+    let handed = state_from(*state);
     let reply = handed.take_ref(stacks, counts, Addr(addr));
     let opened = reply.state;
-    put_state(opened, state);
+    *state = numbers_of(opened);
     reply.answer
 }
 
-// Puts the misses of the cache (b, s, w) into a slice of one entry.
+// Puts the misses of the cache (b, s, w) into a number.
 #[no_mangle]
 pub extern "C" fn kkaeduron_misses(
-    state: &[u32],
+    state: &[u32; STATE_NUMBERS],
     counts: &[u32],
     b: u32,
     s: u32,
     w: u32,
-    misses: &mut [u32],
+    misses: &mut u32,
 ) -> u32
-    ensures { λ r. ⌜ CallsMisses (now (state .entry)) (now (counts .entry)) b s w (now (misses .entry)) r (now (misses .exit)) ⌝ }
+    ensures { λ r. ⌜ CallsMisses (now (state .entry)) (now (counts .entry)) b s w r (now (misses .exit)) ⌝ }
 {
-    if state.len() != STATE_NUMBERS {
-        return OTHER_LENGTH;
-    }
-    if misses.len() != 1 {
-        return OTHER_LENGTH;
-    }
-    let handed = state_from(state);
+    let handed = state_from(*state);
     let counted = handed.misses(counts, ByteExp(b), s, w);
-    misses[0] = counted.misses;
+    *misses = counted.misses;
     counted.answer
 }
 
-// Puts the two ratios of the cache (b, s, w), the miss ratio first, into a slice of two entries.
+// Puts the two ratios of the cache (b, s, w), the miss ratio first, into two numbers.
 #[no_mangle]
 pub extern "C" fn kkaeduron_ratios(
-    state: &[u32],
+    state: &[u32; STATE_NUMBERS],
     counts: &[u32],
     b: u32,
     s: u32,
     w: u32,
-    ratios: &mut [f64],
+    ratios: &mut [f64; BOTH_RATIOS],
 ) -> u32
-    ensures { λ r. ⌜ CallsRatios (now (state .entry)) (now (counts .entry)) b s w (now (ratios .entry)) r (now (ratios .exit)) ⌝ }
+    ensures { λ r. ⌜ CallsRatios (now (state .entry)) (now (counts .entry)) b s w r (now (ratios .exit)) ⌝ }
 {
-    if state.len() != STATE_NUMBERS {
-        return OTHER_LENGTH;
-    }
-    if ratios.len() != 2 {
-        return OTHER_LENGTH;
-    }
-    let handed = state_from(state);
+    let handed = state_from(*state);
     let rated = handed.ratios(counts, ByteExp(b), s, w);
-    ratios[0] = rated.ratios.miss;
-    ratios[1] = rated.ratios.traffic;
+    *ratios = [rated.ratios.miss, rated.ratios.traffic];
     rated.answer
 }
 
-// Strips a list of addresses, and puts how many were kept into a slice of one entry.
+// Strips a list of addresses, and puts how many were kept into a number.
 #[no_mangle]
 pub extern "C" fn kkaeduron_strip(
     list: &[u32],
@@ -119,22 +105,19 @@ pub extern "C" fn kkaeduron_strip(
     s: u32,
     filter: &mut [u32],
     out: &mut [u32],
-    kept: &mut [usize],
+    kept: &mut usize,
 ) -> u32
-    ensures { λ r. ⌜ CallsStrip (now (list .entry)) b s (now (filter .entry)) (now (out .entry)) (now (kept .entry)) r (now (filter .exit)) (now (out .exit)) (now (kept .exit)) ⌝ }
+    ensures { λ r. ⌜ Strips (now (list .entry)) b s (now (filter .entry)) (now (out .entry))
+        (record { answer = r; kept = now (kept .exit) }) (now (filter .exit)) (now (out .exit)) ⌝ }
 {
-    if kept.len() != 1 {
-        return OTHER_LENGTH;
-    }
     let stripped = strip(list, ByteExp(b), s, filter, out);
-    kept[0] = stripped.kept;
+    *kept = stripped.kept;
     stripped.answer
 }
 
-// The opened order that 15 numbers say.
-fn state_from(state: &[u32]) -> Opened
-    requires { ⌜ length (now state) ≡ 15 ⌝ }
-    ensures { λ r. ⌜ r ≡ stateOf (now (state .entry)) ⌝ }
+// The opened order that the numbers say.
+fn state_from(state: [u32; STATE_NUMBERS]) -> Opened
+    ensures { λ r. ⌜ Says state r ⌝ }
 {
     Opened {
         order: Order {
@@ -159,25 +142,27 @@ fn state_from(state: &[u32]) -> Opened
     }
 }
 
-// Writes an opened order as 15 numbers.
-fn put_state(opened: Opened, state: &mut [u32])
-    requires { ⌜ length (now state) ≡ 15 ⌝ }
-    ensures { λ _. ⌜ now (state .exit) ≡ numbersOf opened ⌝ }
+// The numbers of an opened order.
+fn numbers_of(opened: Opened) -> [u32; STATE_NUMBERS]
+    ensures { λ r. ⌜ r ≡ numbersOf opened ⌝ }
 {
+    let order = opened.order;
     let used = opened.used;
-    state[0] = opened.order.bmin.0;
-    state[1] = opened.order.bmax.0;
-    state[2] = opened.order.smax;
-    state[3] = opened.order.ways;
-    state[4] = opened.order.room;
-    state[5] = opened.order.refs;
-    state[6] = opened.taken;
-    state[7] = used[0];
-    state[8] = used[1];
-    state[9] = used[2];
-    state[10] = used[3];
-    state[11] = used[4];
-    state[12] = used[5];
-    state[13] = used[6];
-    state[14] = used[7];
+    [
+        order.bmin.0,
+        order.bmax.0,
+        order.smax,
+        order.ways,
+        order.room,
+        order.refs,
+        opened.taken,
+        used[0],
+        used[1],
+        used[2],
+        used[3],
+        used[4],
+        used[5],
+        used[6],
+        used[7],
+    ]
 }

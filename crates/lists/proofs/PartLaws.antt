@@ -8,8 +8,8 @@ use native.Mathlib.Nat.{suc-mul, mul-le-mul-right, zero-add, suc-add}
 use native.Mathlib.Numerals.{add-one}
 use native.Mathlib.Omega.{arith}
 use lib.Dec.{eqb, ltb}
-use lib.ListN.{length, take, drop, getD, set, length-append, length-take, length-drop, length-set, take-append-drop, List·getD-append}
-use lib.Seq.{take-nil, drop-nil, length-take-le, take-append-seam, take-append-le, take-take, drop-append-add, drop-at, drop-drop, take-add}
+use lib.ListN.{drop-of-length-le, length, take, drop, getD, set, length-append, length-take, length-drop, length-set, take-append-drop, List·getD-append}
+use lib.Seq.{drop-cons, take-nil, drop-nil, length-take-le, take-append-seam, take-append-le, take-take, drop-append-add, drop-at, drop-drop, take-add}
 use lib.Seq.{getD-take, getD-drop, getD-set-same, getD-set-other, getD-append-add, set-append-left}
 use borrow.Author.Tests.{eqb-true, eqb-false, ltb-true, ltb-false}
 use Rattle.lists.specs.Tables.{part, writeAt, writtenRows, setLengths}
@@ -213,3 +213,14 @@ pub setLengths-same : (top up : ℕ → List ℕ) (n : ℕ) (l : List ℕ) → (
 unfolding setLengths
 setLengths-same top up zero l h = refl
 setLengths-same top up (suc n) l h = rw (h n (omega arith), setLengths-same top up n l (λ k g. h k (omega arith)))
+
+-- ---- entries read one by one: n of them, from place i on
+
+abbrev pub listed : ℕ → ℕ → List ℕ → List ℕ
+listed zero i l = []
+listed (suc n) i l = getD l i 0 ∷ listed n (suc i) l
+
+-- all that there are
+pub listed-all : (n i : ℕ) (l : List ℕ) → length l ≡ i + n → listed n i l ≡ drop i l
+listed-all zero i l h = sym (drop-of-length-le l {i = i} (omega arith))
+listed-all (suc n) i l h = rw (drop-cons l i 0 (omega arith)) (ap (λ (t : List ℕ). getD l i 0 ∷ t) (listed-all n (suc i) l (omega arith)))
