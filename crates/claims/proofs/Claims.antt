@@ -157,7 +157,7 @@ module _ (st ct : List ℕ) (lines : List (List ℕ)) (o : Outcome) (run : Runs 
   pub refs-printed : o .left .reading .opened .taken ≡ total referred (givenOf lines)
   refs-printed = program-refs st ct lines o run done
 
-  pub skipped-printed : o .left .reading .opened .taken + o .left .reading .skipped ≡ length (traceOf lines)
+  pub skipped-printed : o .left .reading .opened .taken + o .left .reading .tally .skipped ≡ length (traceOf lines)
   skipped-printed = program-skipped st ct lines o run done
 
 -- the twelve cases at b = 4

@@ -1,5 +1,6 @@
 pub mod Cases
 pub mod CutLaws
+pub mod LengthLaws
 pub mod MemberLaws
 pub mod PartLaws
 pub mod RaiseLaws

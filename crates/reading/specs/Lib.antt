@@ -1,2 +1,3 @@
+pub mod Head
 pub mod Reading
-pub mod Input
+pub mod Step

@@ -1,4 +1,4 @@
--- Where the program's input ends, told from its lines alone: the cases of document 01, "Refusal numbers", with no state and no table's contents.
+-- Where the program's input ends, told from its lines alone: the cases of SCOPE, "Refusal numbers", with no state and no table's contents.
 -- Assumes nothing.
 use Prim.Native.Nat.{ℕ, _+_}
 use mathlib.Core.Bool.{Bool, false, cond, not, _&&_, _||_}
@@ -45,7 +45,10 @@ isFullAfter o past g b = ltb (o .room) (length (after stackStep [] (eventsOf b (
 -- one more after `past`: 5 where the references taken equal refs, 6 where at some block size the blocks seen would be more than room
 abbrev pub refAnswer : Order → List Given → Given → ℕ
 refAnswer o past g =
-    firstOf ((eqb (total referred past) (o .refs), refsReached) ∷ (anyTo (sizes o) (λ (k : ℕ). isFullAfter o past g (o .bmin .0 + k)), stackFull) ∷ [])
+    firstOf
+    ((eqb (total referred past) (o .refs), refsReached)
+    ∷ (anyTo (sizes o) (λ (k : ℕ). isFullAfter o past g (o .bmin .0 + k)), stackFull)
+    ∷ [])
 
 -- a line of the trace: only a reference of a kind that is counted is taken
 abbrev pub traceAnswer : Order → Kinds → List Given → TraceLine → ℕ
