@@ -32,6 +32,7 @@ use Rattle.calls.specs.Calls.{Calls}
 use Rattle.calls.proofs.CallLaws.{call-refused, history-after}
 use Rattle.calls.proofs.AnswerLaws.{seenIn, count-is}
 use Rattle.reading.specs.Reading.{desk, Outcome, start}
+use Rattle.reading.specs.Tables.{Allotted}
 use Rattle.runs.specs.Input.{Runs, headerOf, traceOf, orderIn, givenOf}
 use Rattle.runs.specs.Endings.{inputEnding}
 use Rattle.runs.proofs.EndingLaws.{run-listed}
@@ -121,7 +122,8 @@ module _ (st ct : List ℕ) (lines : List (List ℕ)) (o : Outcome) (run : Runs 
   pub demand-1-program : (o .answer ≡ inputEnding (unopened st ct) [] lines .answer) × (o .left .reading .lines ≡ inputEnding (unopened st ct) [] lines .line)
   demand-1-program = (program-answer st ct lines o run, program-line st ct lines o run)
 
-  pub demand-1-listed : mem (o .answer) (0 ∷ 1 ∷ 2 ∷ 3 ∷ 5 ∷ 6 ∷ 10 ∷ 11 ∷ 26 ∷ []) ≡ true
+  -- over the program's tables, of 8,192 and 1,920 entries
+  pub demand-1-listed : Allotted (unopened st ct) → mem (o .answer) (0 ∷ 1 ∷ 2 ∷ 5 ∷ 6 ∷ 10 ∷ 11 ∷ 26 ∷ []) ≡ true
   demand-1-listed = run-listed st ct lines o run
 
 -- ---- Demand 2: from an opening, over every sequence of calls, each handed the state that the one before handed back and the tables untouched

@@ -1,3 +1,4 @@
 pub mod Head
 pub mod Reading
 pub mod Step
+pub mod Tables

@@ -14,6 +14,12 @@ mod heading;
 pub mod stage;
 mod tracing;
 
+// The program's tables. "Block sizes times room may be at most 8,192 in this program."
+pub const STACK_ENTRIES: usize = 8192;
+
+// Enough for every order within its limits: 8 block sizes, 15 set counts, 16 ways.
+pub const COUNT_ENTRIES: usize = 1920;
+
 // The lines that an input may have.
 const LINES_MOST: u64 = 4294967295;
 

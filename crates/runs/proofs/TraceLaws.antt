@@ -74,7 +74,8 @@ module _ (d : Desk) (past : List Given) (trace : inTrace (d .reading) ≡ true) 
   taking-answer : (g : Given) → takeAnswer w g ≡ refAnswer o past g
   taking-answer g =
       answer-by-sizes w g (h .fitted .fit)
-      ∙ ap₂ (λ (full over : Bool). cond (eqb (w .state .taken) (o .refs)) 5 (cond full 6 (cond over 7 0))) (full-all w past h g) (none-over w past h g)
+      ∙ ap₂ (λ (full over : Bool). cond (eqb (w .state .taken) (o .refs)) 5 (cond full 6 (cond over 7 0)))
+      (full-all w past h g) (none-over w past h g)
       ∙ ap (λ (n : ℕ). cond (eqb n (o .refs)) 5 (cond (anyTo (sizes o) (λ (k : ℕ). isFullAfter o past g (o .bmin .0 + k))) 6 0))
       (count-is w past h)
 

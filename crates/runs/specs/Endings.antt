@@ -22,6 +22,7 @@ use Rattle.lines.specs.declared.TraceLine.{TraceLine}
 use Rattle.lines.specs.declared.TraceLine.the-variants.{Ref, Skipped, Refused as BadTrace}
 use Rattle.lines.specs.OrderLine.{orderLineOf, countsKind}
 use Rattle.lines.specs.TraceLine.{traceLineOf}
+use Rattle.reading.specs.Step.{linesMost}
 use Rattle.runs.specs.Input.{isBegin, orderIn, kindsIn, givenBy}
 
 -- the answer, and its line: that of the refusal, or the last where the answer is 0
@@ -32,9 +33,9 @@ pub record Ending : Type 0 where
 abbrev pub endsAt : ℕ → ℕ → Ending
 endsAt answer line = record { answer = answer; line = line }
 
--- the numbers of the program, and 0
+-- the numbers of the program, and 0: over its tables, 3 never comes
 abbrev pub listed : List ℕ
-listed = 0 ∷ 1 ∷ 2 ∷ 3 ∷ 5 ∷ 6 ∷ 10 ∷ 11 ∷ 26 ∷ []
+listed = 0 ∷ 1 ∷ 2 ∷ 5 ∷ 6 ∷ 10 ∷ 11 ∷ 26 ∷ []
 
 -- ---- in the trace
 
@@ -58,7 +59,7 @@ traceAnswer o kinds past (BadTrace n) = badTraceLine
 
 -- the line after n others: 26 is decided before it is read
 abbrev pub nextAnswer : Order → Kinds → List Given → ℕ → List ℕ → ℕ
-nextAnswer o kinds past n line = cond (leb 4294967295 n) tooManyLines (traceAnswer o kinds past (traceLineOf line))
+nextAnswer o kinds past n line = cond (leb linesMost n) tooManyLines (traceAnswer o kinds past (traceLineOf line))
 
 -- the lines that are left, after n lines of the input and the references `past`
 unfoldable pub traceEnding : Order → Kinds → List Given → ℕ → List (List ℕ) → Ending

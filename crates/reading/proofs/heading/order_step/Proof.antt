@@ -2,6 +2,7 @@
 use mathlib.Core.Path.{_≡_, refl, sym, ap, _∙_}
 use Rattle.lines.specs.declared.OrderLine.{OrderLine}
 use Rattle.lines.specs.OrderLine.{orderLineOf}
+use Rattle.lines.proofs.SaidLaws.{order-said-unique}
 use Rattle.reading.specs.declared.Step.{Step}
 use Rattle.reading.specs.Reading.{Desk, desk, Outcome, stays}
 use Rattle.reading.specs.Head.{orderStep}
@@ -19,7 +20,9 @@ deskAt c = let a = startOf c .args in desk (a .reading) (a .stacks .now) (a .cou
 -- as l: then what is handed back is the outcome of l
 told : (c : tie.After-order-line) {l : OrderLine} {o : Outcome} → c .order-line .result ≡ l → o ≡ orderStep (deskAt c) l
     → o ≡ orderStep (deskAt c) (orderLineOf (startOf c .args .line .now))
-told c read e = e ∙ ap (orderStep (deskAt c)) (sym read ∙ c .order-line .ensures)
+told c read e =
+    let same = order-said-unique (c .order-line .result) (orderLineOf (startOf c .args .line .now)) (c .order-line .ensures) in
+    e ∙ ap (orderStep (deskAt c)) (sym read ∙ same)
 
 -- and so where the tables stay
 kept : (c : tie.After-order-line) {l : OrderLine} {s t : Step} → c .order-line .result ≡ l → s ≡ t → stays t (deskAt c) ≡ orderStep (deskAt c) l

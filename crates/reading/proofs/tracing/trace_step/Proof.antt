@@ -2,6 +2,7 @@
 use mathlib.Core.Path.{_≡_, refl, sym, ap, _∙_}
 use Rattle.lines.specs.declared.TraceLine.{TraceLine}
 use Rattle.lines.specs.TraceLine.{traceLineOf}
+use Rattle.lines.proofs.SaidLaws.{trace-said-unique}
 use Rattle.reading.specs.declared.Step.{Step}
 use Rattle.reading.specs.Reading.{Desk, desk, Outcome, stays}
 use Rattle.reading.specs.Step.{traceStep}
@@ -20,7 +21,9 @@ deskAt c = let a = startOf c .args in desk (a .reading) (a .stacks .now) (a .cou
 -- as t: then what is handed back is the outcome of t
 told : (c : tie.After-trace-line) {t : TraceLine} {o : Outcome} → c .trace-line .result ≡ t → o ≡ traceStep (deskAt c) t
     → o ≡ traceStep (deskAt c) (traceLineOf (startOf c .args .line .now))
-told c read e = e ∙ ap (traceStep (deskAt c)) (sym read ∙ c .trace-line .ensures)
+told c read e =
+    let same = trace-said-unique (c .trace-line .result) (traceLineOf (startOf c .args .line .now)) (c .trace-line .ensures) in
+    e ∙ ap (traceStep (deskAt c)) (sym read ∙ same)
 
 returns : tie.Need-returns
 returns c =

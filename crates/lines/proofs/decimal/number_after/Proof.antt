@@ -3,11 +3,8 @@ use mathlib.Core.Path.{sym, _∙_}
 use borrow.Author.Needs.{needs}
 use borrow.Author.Tests.{not-true, not-false}
 use Rattle.lines.proofs.OrderLaws.{starts-length}
-use Rattle.lines.proofs.number_after.Statement.{statement}
-use Rattle.lines.proofs.number_after.Tie as tie
-
-starts-with-requires : tie.Need-starts-with-requires
-starts-with-requires c κs = search needs
+use Rattle.lines.proofs.decimal.number_after.Statement.{statement}
+use Rattle.lines.proofs.decimal.number_after.Tie as tie
 
 returns : tie.Need-returns
 returns c =
@@ -22,6 +19,6 @@ returns-2 c =
     let starts = sym (c .before .before .starts-with .ensures) ∙ not-false _ (c .before .if1 .left) in
     c .number-from .ensures ∙ simp starts
 
+-- closed by search
 pub number-after-spec : {M : Type 1} → statement M
-number-after-spec =
-    tie.close (tie.spec starts-with-requires returns number-from-requires returns-2)
+number-after-spec = tie.close (tie.spec (λ c κs. search needs) returns number-from-requires returns-2)

@@ -8,7 +8,7 @@ use lib.ListN.{length, drop, getD}
 use borrow.Author.Needs.{needs}
 use Rattle.lines.specs.OrderLine.{allDecimal, decimal}
 use Rattle.lines.specs.Parts.{numberOf}
-use Rattle.lines.specs.declared.Number.the-variants.{Value}
+use Rattle.lines.specs.declared.decimal.Number.the-variants.{Value}
 use Rattle.lines.proofs.ByteLaws.{range-yes, range-below, range-above, numeral-more, numeral-fits}
 use Rattle.lines.proofs.OrderLaws.{
   digits-more,
@@ -23,8 +23,8 @@ use Rattle.lines.proofs.OrderLaws.{
   number-other,
   number-right,
 }
-use Rattle.lines.proofs.number_from.Statement.{statement}
-use Rattle.lines.proofs.number_from.Tie as tie
+use Rattle.lines.proofs.decimal.number_from.Statement.{statement}
+use Rattle.lines.proofs.decimal.number_from.Tie as tie
 
 abbrev Inv-loop : tie.InvT-loop
 Inv-loop line from count value₀ i₀ value i =
@@ -35,9 +35,6 @@ Inv-loop line from count value₀ i₀ value i =
 abbrev μ-loop : tie.MeasureT-loop
 μ-loop line from count value₀ i₀ value i = length line - i
 
-sub-count : tie.Need-sub-count Inv-loop μ-loop
-sub-count c = search needs
-
 returns : tie.Need-returns Inv-loop μ-loop
 returns c =
     let a = c .before .args in
@@ -47,9 +44,6 @@ returns-2 : tie.Need-returns-2 Inv-loop μ-loop
 returns-2 c =
     let a = c .before .before .args in
     sym (number-long (a .line .now) (a .from) (omega arith) (c .if2 .taken))
-
-shared-slice-read-if3 : tie.Need-shared-slice-read-if3 Inv-loop μ-loop
-shared-slice-read-if3 c = search needs
 
 returns-3 : tie.Need-returns-3 Inv-loop μ-loop
 returns-3 c =
@@ -66,9 +60,6 @@ loop-holds c =
     let from = c .before .before .before .before .args .from in
     let none : from - from ≡ 0 = omega arith in
     (search needs, search needs, rw none (omega arith), refl, refl)
-
-shared-slice-read-digit : tie.Need-shared-slice-read-digit Inv-loop μ-loop
-shared-slice-read-digit c = search needs
 
 returns-5 : tie.Need-returns-5 Inv-loop μ-loop
 returns-5 c =
@@ -111,12 +102,6 @@ cast-value c = omega (arith, c .if6 .left)
 add-value : tie.Need-add-value Inv-loop μ-loop
 add-value c = omega (arith, fits c)
 
-add-i : tie.Need-add-i Inv-loop μ-loop
-add-i c = search needs
-
-loop-less : tie.Need-loop-less Inv-loop μ-loop
-loop-less c = search needs
-
 loop-again : tie.Need-loop-again Inv-loop μ-loop
 loop-again c =
     let a = c .before .before .before .before .before .before .before .before .before .args in
@@ -147,34 +132,32 @@ whole c =
 returns-7 : tie.Need-returns-7 Inv-loop μ-loop
 returns-7 c = sym (whole (c .before) ∙ ap Value (omega arith))
 
-cast-t18 : tie.Need-cast-t18 Inv-loop μ-loop
-cast-t18 c = search needs
-
 returns-8 : tie.Need-returns-8 Inv-loop μ-loop
 returns-8 c = sym (whole (c .before) ∙ ap Value (omega arith))
 
+-- closed by search
 pub number-from-spec : {M : Type 1} → statement M
 number-from-spec =
     tie.close
     (tie.spec
     Inv-loop
     μ-loop
-    sub-count
+    (λ c. search needs)
     returns
     returns-2
-    shared-slice-read-if3
+    (λ c. search needs)
     returns-3
     returns-4
     loop-holds
-    shared-slice-read-digit
+    (λ c. search needs)
     returns-5
     returns-6
     mul-value
     cast-value
     add-value
-    add-i
-    loop-less
+    (λ c. search needs)
+    (λ c. search needs)
     loop-again
     returns-7
-    cast-t18
+    (λ c. search needs)
     returns-8)

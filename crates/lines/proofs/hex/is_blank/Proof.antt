@@ -1,7 +1,7 @@
 -- `is_blank` meets its contract: its two tests are the definition's. Assumes nothing.
 use borrow.Author.Tests.{eq-eqb, ne-eqb}
-use Rattle.lines.proofs.is_blank.Statement.{statement}
-use Rattle.lines.proofs.is_blank.Tie as tie
+use Rattle.lines.proofs.hex.is_blank.Statement.{statement}
+use Rattle.lines.proofs.hex.is_blank.Tie as tie
 
 returns : tie.Need-returns
 returns c = simp (eq-eqb _ _ (c .if1 .taken))

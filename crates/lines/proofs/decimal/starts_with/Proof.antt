@@ -6,8 +6,8 @@ use lib.ListN.{length, drop}
 use borrow.Author.Needs.{needs}
 use Rattle.lines.specs.OrderLine.{startsWith}
 use Rattle.lines.proofs.OrderLaws.{starts-more, starts-other, starts-short, starts-end}
-use Rattle.lines.proofs.starts_with.Statement.{statement}
-use Rattle.lines.proofs.starts_with.Tie as tie
+use Rattle.lines.proofs.decimal.starts_with.Statement.{statement}
+use Rattle.lines.proofs.decimal.starts_with.Tie as tie
 
 abbrev Inv-loop : tie.InvT-loop
 Inv-loop line name i₀ i =
@@ -22,22 +22,10 @@ loop-holds c = (search needs, search needs, refl)
 returns : tie.Need-returns Inv-loop μ-loop
 returns c = let l = c .before .before .loop in sym (l .inv .2 ∙ starts-short _ _ (l .i) (omega arith) (omega arith))
 
-shared-slice-read-if2 : tie.Need-shared-slice-read-if2 Inv-loop μ-loop
-shared-slice-read-if2 c = search needs
-
-shared-slice-read-if2-2 : tie.Need-shared-slice-read-if2-2 Inv-loop μ-loop
-shared-slice-read-if2-2 c = search needs
-
 returns-2 : tie.Need-returns-2 Inv-loop μ-loop
 returns-2 c =
     let l = c .before .before .before .before .before .loop in
     sym (l .inv .2 ∙ starts-other _ _ (l .i) (omega arith) (omega arith) (c .if2 .taken))
-
-add-i : tie.Need-add-i Inv-loop μ-loop
-add-i c = search needs
-
-loop-less : tie.Need-loop-less Inv-loop μ-loop
-loop-less c = search needs
 
 loop-again : tie.Need-loop-again Inv-loop μ-loop
 loop-again c =
@@ -47,6 +35,7 @@ loop-again c =
 returns-3 : tie.Need-returns-3 Inv-loop μ-loop
 returns-3 c = let l = c .before .loop in sym (l .inv .2 ∙ starts-end _ _ (l .i) (omega arith))
 
+-- closed by search
 pub starts-with-spec : {M : Type 1} → statement M
 starts-with-spec =
     tie.close
@@ -55,10 +44,10 @@ starts-with-spec =
     μ-loop
     loop-holds
     returns
-    shared-slice-read-if2
-    shared-slice-read-if2-2
+    (λ c. search needs)
+    (λ c. search needs)
     returns-2
-    add-i
-    loop-less
+    (λ c. search needs)
+    (λ c. search needs)
     loop-again
     returns-3)

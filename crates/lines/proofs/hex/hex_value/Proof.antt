@@ -2,8 +2,8 @@
 -- Assumes nothing.
 use mathlib.Core.Path.{refl, sym}
 use Rattle.lines.proofs.ByteLaws.{no-digit-worth}
-use Rattle.lines.proofs.hex_value.Statement.{statement}
-use Rattle.lines.proofs.hex_value.Tie as tie
+use Rattle.lines.proofs.hex.hex_value.Statement.{statement}
+use Rattle.lines.proofs.hex.hex_value.Tie as tie
 
 returns : tie.Need-returns
 returns c = rw (c .match .keys1) refl

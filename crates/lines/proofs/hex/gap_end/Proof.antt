@@ -7,8 +7,8 @@ use borrow.Author.Needs.{needs}
 use borrow.Author.Tests.{not-true, not-false}
 use Rattle.lines.specs.Parts.{blanks}
 use Rattle.lines.proofs.TraceLaws.{blanks-more, blanks-stop, blanks-end}
-use Rattle.lines.proofs.gap_end.Statement.{statement}
-use Rattle.lines.proofs.gap_end.Tie as tie
+use Rattle.lines.proofs.hex.gap_end.Statement.{statement}
+use Rattle.lines.proofs.hex.gap_end.Tie as tie
 
 abbrev Inv-loop : tie.InvT-loop
 Inv-loop line from i₀ i = (i ≤ length line) × (from + blanks (drop from line) ≡ i + blanks (drop i line))
@@ -19,23 +19,11 @@ abbrev μ-loop : tie.MeasureT-loop
 loop-holds : tie.Need-loop-holds Inv-loop μ-loop
 loop-holds c = (search needs, refl)
 
-shared-slice-read-is-blank : tie.Need-shared-slice-read-is-blank Inv-loop μ-loop
-shared-slice-read-is-blank c = search needs
-
-is-blank-requires : tie.Need-is-blank-requires Inv-loop μ-loop
-is-blank-requires c κs = search needs
-
 returns : tie.Need-returns Inv-loop μ-loop
 returns c =
     let l = c .before .before .before .before .loop in
     let other = sym (c .before .is-blank .ensures) ∙ not-true _ (c .if1 .taken) in
     sym (l .inv .1 ∙ blanks-stop _ (l .i) (omega arith) other)
-
-add-i : tie.Need-add-i Inv-loop μ-loop
-add-i c = search needs
-
-loop-less : tie.Need-loop-less Inv-loop μ-loop
-loop-less c = search needs
 
 loop-again : tie.Need-loop-again Inv-loop μ-loop
 loop-again c =
@@ -46,6 +34,7 @@ loop-again c =
 returns-2 : tie.Need-returns-2 Inv-loop μ-loop
 returns-2 c = let l = c .before .loop in sym (l .inv .1 ∙ blanks-end _ (l .i) (omega arith))
 
+-- closed by search
 pub gap-end-spec : {M : Type 1} → statement M
 gap-end-spec =
     tie.close
@@ -53,10 +42,10 @@ gap-end-spec =
     Inv-loop
     μ-loop
     loop-holds
-    shared-slice-read-is-blank
-    is-blank-requires
+    (λ c. search needs)
+    (λ c κs. search needs)
     returns
-    add-i
-    loop-less
+    (λ c. search needs)
+    (λ c. search needs)
     loop-again
     returns-2)

@@ -12,8 +12,8 @@ use Rattle.lines.specs.Bytes.{isHex, hexValue}
 use Rattle.lines.specs.TraceLine.{inAddress}
 use Rattle.lines.proofs.ByteLaws.{digit-of-small, no-digit-of-large, numeral-more, numeral-fits}
 use Rattle.lines.proofs.TraceLaws.{address-more}
-use Rattle.lines.proofs.hex_digits.Statement.{statement}
-use Rattle.lines.proofs.hex_digits.Tie as tie
+use Rattle.lines.proofs.hex.hex_digits.Statement.{statement}
+use Rattle.lines.proofs.hex.hex_digits.Tie as tie
 
 abbrev Inv-loop : tie.InvT-loop
 Inv-loop line from stop value₀ i₀ value i =
@@ -23,20 +23,11 @@ Inv-loop line from stop value₀ i₀ value i =
 abbrev μ-loop : tie.MeasureT-loop
 μ-loop line from stop value₀ i₀ value i = stop - i
 
-digits-stop-requires : tie.Need-digits-stop-requires Inv-loop μ-loop
-digits-stop-requires c κs = search needs
-
 loop-holds : tie.Need-loop-holds Inv-loop μ-loop
 loop-holds c =
     let from = c .before .before .args .from in
     let none : from - from ≡ 0 = omega arith in
     (search needs, search needs, rw none (omega arith), λ label. rw none refl)
-
-shared-slice-read-hex-value : tie.Need-shared-slice-read-hex-value Inv-loop μ-loop
-shared-slice-read-hex-value c = search needs
-
-hex-value-requires : tie.Need-hex-value-requires Inv-loop μ-loop
-hex-value-requires c κs = search needs
 
 returns : tie.Need-returns Inv-loop μ-loop
 returns c =
@@ -75,12 +66,6 @@ mul-value c = omega (arith, fits c)
 add-value : tie.Need-add-value Inv-loop μ-loop
 add-value c = omega (arith, fits c)
 
-add-i : tie.Need-add-i Inv-loop μ-loop
-add-i c = search needs
-
-loop-less : tie.Need-loop-less Inv-loop μ-loop
-loop-less c = search needs
-
 loop-again : tie.Need-loop-again Inv-loop μ-loop
 loop-again c =
     let l = c .before .before .before .before .loop in
@@ -100,20 +85,21 @@ returns-2 c =
     let full = le-ltb (l .i - c .before .before .before .before .args .from) 8 in
     record { within = search needs; goes-on = l .inv .3; ended = λ h. simp (full (omega arith), and-false) }
 
+-- closed by search
 pub hex-digits-spec : {M : Type 1} → statement M
 hex-digits-spec =
     tie.close
     (tie.spec
     Inv-loop
     μ-loop
-    digits-stop-requires
+    (λ c κs. search needs)
     loop-holds
-    shared-slice-read-hex-value
-    hex-value-requires
+    (λ c. search needs)
+    (λ c κs. search needs)
     returns
     mul-value
     add-value
-    add-i
-    loop-less
+    (λ c. search needs)
+    (λ c. search needs)
     loop-again
     returns-2)
