@@ -20,36 +20,27 @@ pub(crate) fn is_blank(b: u8) -> bool
     b == b' ' || b == b'\t'
 }
 
-// The value of a hex digit, and 16 of any other byte. (A match on constants is compiled to a table in
-// the program's read-only part; a constant array would be written to the stack for each digit.)
+// The value of a hex digit, and 16 of any other byte. (Each pair of tests is one comparison in the program; a
+// constant array would be written to the stack for each digit.)
 fn hex_value(b: u8) -> u32
     ensures { λ r. ⌜ r ≡ hexOr16 b ⌝ }
 {
-    match b {
-        b'0' => 0,
-        b'1' => 1,
-        b'2' => 2,
-        b'3' => 3,
-        b'4' => 4,
-        b'5' => 5,
-        b'6' => 6,
-        b'7' => 7,
-        b'8' => 8,
-        b'9' => 9,
-        b'a' => 10,
-        b'b' => 11,
-        b'c' => 12,
-        b'd' => 13,
-        b'e' => 14,
-        b'f' => 15,
-        b'A' => 10,
-        b'B' => 11,
-        b'C' => 12,
-        b'D' => 13,
-        b'E' => 14,
-        b'F' => 15,
-        _ => 16,
+    if b >= b'0' {
+        if b <= b'9' {
+            return (b - b'0') as u32;
+        }
     }
+    if b >= b'a' {
+        if b <= b'f' {
+            return (b - b'a') as u32 + 10;
+        }
+    }
+    if b >= b'A' {
+        if b <= b'F' {
+            return (b - b'A') as u32 + 10;
+        }
+    }
+    16
 }
 
 // The first place from `from` on that holds no blank, or the end of the line.

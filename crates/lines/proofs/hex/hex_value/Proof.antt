@@ -1,103 +1,49 @@
--- `hex_value` meets its contract: at each byte of the match the definition computes, and what the match leaves is no digit.
--- Assumes nothing.
-use mathlib.Core.Path.{refl, sym}
-use Rattle.lines.proofs.ByteLaws.{no-digit-worth}
+-- `hex_value` meets its contract: each pair of tests is a range of the definition, and what passes none is no digit. Assumes nothing.
+use mathlib.Core.Path.{_≡_}
+use mathlib.Core.Bool.{false}
+use mathlib.Core.Logic.{⊎-elim}
+use borrow.Author.Needs.{needs}
+use Rattle.lines.specs.Bytes.{between}
+use Rattle.lines.proofs.ByteLaws.{range-yes, range-below, range-above}
 use Rattle.lines.proofs.hex.hex_value.Statement.{statement}
 use Rattle.lines.proofs.hex.hex_value.Tie as tie
 
+-- past each pair of tests
+no-decimal : (c : tie.Joined1) → between "0" "9" (c .before .args .b) ≡ false
+no-decimal c = ⊎-elim (λ x. range-above 48 57 _ (x .1 .left)) (λ x. range-below 48 57 _ (x .left)) (c .if1 .came)
+
+no-lower : (c : tie.Joined3) → between "a" "f" (c .before .before .args .b) ≡ false
+no-lower c = ⊎-elim (λ x. range-above 97 102 _ (x .1 .left)) (λ x. range-below 97 102 _ (x .left)) (c .if3 .came)
+
 returns : tie.Need-returns
-returns c = rw (c .match .keys1) refl
+returns c = simp (range-yes 48 57 _ (c .before .if1 .taken) (c .if2 .taken))
 
 returns-2 : tie.Need-returns-2
-returns-2 c = rw (c .match .keys2) refl
+returns-2 c = simp (no-decimal (c .before .before), range-yes 97 102 _ (c .before .if3 .taken) (c .if4 .taken))
 
 returns-3 : tie.Need-returns-3
-returns-3 c = rw (c .match .keys3) refl
+returns-3 c =
+    let past = c .before .before in
+    simp (no-decimal (past .before), no-lower past, range-yes 65 70 _ (c .before .if5 .taken) (c .if6 .taken))
 
 returns-4 : tie.Need-returns-4
-returns-4 c = rw (c .match .keys4) refl
+returns-4 c = let past = c .before .before in simp (no-decimal (past .before), no-lower past, range-above 65 70 _ (c .if6 .left))
 
 returns-5 : tie.Need-returns-5
-returns-5 c = rw (c .match .keys5) refl
+returns-5 c = let past = c .before in simp (no-decimal (past .before), no-lower past, range-below 65 70 _ (c .if5 .left))
 
-returns-6 : tie.Need-returns-6
-returns-6 c = rw (c .match .keys6) refl
-
-returns-7 : tie.Need-returns-7
-returns-7 c = rw (c .match .keys7) refl
-
-returns-8 : tie.Need-returns-8
-returns-8 c = rw (c .match .keys8) refl
-
-returns-9 : tie.Need-returns-9
-returns-9 c = rw (c .match .keys9) refl
-
-returns-10 : tie.Need-returns-10
-returns-10 c = rw (c .match .keys10) refl
-
-returns-11 : tie.Need-returns-11
-returns-11 c = rw (c .match .keys11) refl
-
-returns-12 : tie.Need-returns-12
-returns-12 c = rw (c .match .keys12) refl
-
-returns-13 : tie.Need-returns-13
-returns-13 c = rw (c .match .keys13) refl
-
-returns-14 : tie.Need-returns-14
-returns-14 c = rw (c .match .keys14) refl
-
-returns-15 : tie.Need-returns-15
-returns-15 c = rw (c .match .keys15) refl
-
-returns-16 : tie.Need-returns-16
-returns-16 c = rw (c .match .keys16) refl
-
-returns-17 : tie.Need-returns-17
-returns-17 c = rw (c .match .keys17) refl
-
-returns-18 : tie.Need-returns-18
-returns-18 c = rw (c .match .keys18) refl
-
-returns-19 : tie.Need-returns-19
-returns-19 c = rw (c .match .keys19) refl
-
-returns-20 : tie.Need-returns-20
-returns-20 c = rw (c .match .keys20) refl
-
-returns-21 : tie.Need-returns-21
-returns-21 c = rw (c .match .keys21) refl
-
-returns-22 : tie.Need-returns-22
-returns-22 c = rw (c .match .keys22) refl
-
-returns-23 : tie.Need-returns-23
-returns-23 c = sym (no-digit-worth (c .before .args .b) (c .match .rest))
-
+-- closed by search
 pub hex-value-spec : {M : Type 1} → statement M
 hex-value-spec =
     tie.close
     (tie.spec
+    (λ c. search needs)
     returns
+    (λ c. search needs)
+    (λ c. search needs)
     returns-2
+    (λ c. search needs)
+    (λ c. search needs)
     returns-3
     returns-4
-    returns-5
-    returns-6
-    returns-7
-    returns-8
-    returns-9
-    returns-10
-    returns-11
-    returns-12
-    returns-13
-    returns-14
-    returns-15
-    returns-16
-    returns-17
-    returns-18
-    returns-19
-    returns-20
-    returns-21
-    returns-22
-    returns-23)
+    returns-5)
