@@ -23,7 +23,7 @@ use Rattle.taking.specs.declared.Counted.{Counted}
 use Rattle.taking.specs.declared.Rated.{Rated}
 use Rattle.taking.specs.Places.{usedOf, stackAt}
 use Rattle.taking.specs.World.{World, world}
-use Rattle.taking.specs.Opening.{Opens, unopened}
+use Rattle.taking.specs.Opening.{Opens, openAnswer, unopened}
 use Rattle.taking.specs.Taking.{Takes, isForeign, someSize}
 use Rattle.taking.specs.Questions.{has, hitsOf, missesOf}
 use Rattle.taking.specs.Ratios.{ratiosOf, ratiosAt, noRatios}
@@ -33,6 +33,8 @@ use Rattle.strip.specs.declared.Stripped.{Stripped}
 use Rattle.strip.specs.Strip.{keptOf, stripLimits, Strips}
 use Rattle.strip.proofs.StripClaims.{strip-refused, strip-short, strip-untouched, left-is-kept, kept-as-before, dropped-hit, misses-same}
 use Rattle.reading.specs.Reading.{desk, Outcome, start}
+use Rattle.reading.specs.Tables.{Allotted}
+use Rattle.reading.proofs.TableLaws.{opening-in-program}
 use Rattle.runs.specs.Input.{Runs, headerOf, traceOf, orderIn, givenOf}
 use Rattle.runs.specs.Endings.{inputEnding}
 use Rattle.runs.proofs.EndingLaws.{run-listed}
@@ -142,9 +144,14 @@ module _ (st ct : List ℕ) (lines : List (List ℕ)) (o : Outcome) (run : Runs 
       × (o .left .reading .lines ≡ inputEnding (unopened st ct) [] lines .line)
   demand-1-program = (program-answer st ct lines o run, program-line st ct lines o run)
 
-  -- and that is one of the listed ones
-  pub demand-1-listed : mem (o .answer) (0 ∷ 1 ∷ 2 ∷ 3 ∷ 5 ∷ 6 ∷ 10 ∷ 11 ∷ 26 ∷ []) ≡ true
+  -- and, over the program's own tables of 8,192 and 1,920 entries, that is one of the listed ones
+  pub demand-1-listed : Allotted (unopened st ct) → mem (o .answer) (0 ∷ 1 ∷ 2 ∷ 5 ∷ 6 ∷ 10 ∷ 11 ∷ 26 ∷ []) ≡ true
   demand-1-listed = run-listed st ct lines o run
+
+-- over these tables the begin line is refused with 2 exactly where block sizes times room exceed 8,192, after 1, and never with 3
+pub program-tables : (o : Order) (st ct : List ℕ) → Allotted (unopened st ct)
+    → openAnswer o (unopened st ct) ≡ firstOf ((not (within o), 1) ∷ (ltb 8192 (sizes o * o .room), 2) ∷ [])
+program-tables o st ct = opening-in-program o (unopened st ct)
 
 -- ==== Demand 2: from an opening, with each call handed the state that the one before handed back and the tables untouched in between, the misses
 -- given for each cache in range equal those of simulating that one cache, empty at the start, over the references taken
@@ -216,7 +223,7 @@ module _ (st ct : List ℕ) (lines : List (List ℕ)) (o : Outcome) (run : Runs 
   pub refs-printed : o .left .reading .opened .taken ≡ total referred (givenOf lines)
   refs-printed = program-refs st ct lines o run done
 
-  pub skipped-printed : o .left .reading .opened .taken + o .left .reading .skipped ≡ length (traceOf lines)
+  pub skipped-printed : o .left .reading .opened .taken + o .left .reading .tally .skipped ≡ length (traceOf lines)
   skipped-printed = program-skipped st ct lines o run done
 
 -- ---- the twelve cases at b = 4

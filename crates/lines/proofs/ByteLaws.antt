@@ -1,6 +1,6 @@
--- Laws of bytes that are digits or blanks, of numerals to any base, and of what a match leaves, in that order.
+-- Laws of bytes that are digits or blanks, and of numerals to any base, in that order.
 -- Assumes nothing.
-use Prim.Native.Nat.{ℕ, zero, suc, _+_, _*_, _^_, _≤_, _<_}
+use Prim.Native.Nat.{ℕ, suc, _+_, _*_, _^_, _≤_, _<_}
 use mathlib.Core.Path.{_≡_}
 use mathlib.Core.Bool.{true, false, _&&_, false≢true, and-false}
 use native.Mathlib.Nat.{pow-suc, pow-le-pow-right, le-trans}
@@ -59,39 +59,3 @@ numeral-more base n v d hv hd = rw pow-suc (digits-lt hv hd)
 pub numeral-fits : (base most n v d : ℕ) → v < base ^ n → d < base → n < most → v * base + d < base ^ most
 numeral-fits base most n v d hv hd hn =
     le-trans (numeral-more base n v d hv hd) (pow-le-pow-right (omega arith) hn)
-
--- ---- what a match on single bytes leaves: c is none of the n from low on, beside what the arms before them left
-
-abbrev Missed : Type 0 → ℕ → ℕ → ℕ → Type 0
-Missed Before low zero c = Before
-Missed Before low (suc n) c = Missed Before low n c × (c ≡ low + n → ⊥)
-
-missed-before : (Before : Type 0) (low n c : ℕ) → Missed Before low n c → Before
-missed-before Before low zero c m = m
-missed-before Before low (suc n) c m = missed-before Before low n c (m .0)
-
-missed-range : (Before : Type 0) (low n c : ℕ) → Missed Before low n c → low ≤ c → c < low + n → ⊥
-missed-range Before low zero c m l h = omega arith
-missed-range Before low (suc n) c m l h = missed-range Before low n c (m .0) l (omega (arith, m .1))
-
-abbrev NoDecimal : ℕ → Type 0
-NoDecimal c = Missed (Unit {0}) 48 10 c
-
-abbrev NoSmall : ℕ → Type 0
-NoSmall c = Missed (NoDecimal c) 97 6 c
-
--- none of '0' to '9', 'a' to 'f' and 'A' to 'F', in this order
-abbrev pub NoDigit : ℕ → Type 0
-NoDigit c = Missed (NoSmall c) 65 6 c
-
-pub no-digit-worth : (c : ℕ) → NoDigit c → hexOr16 c ≡ 16
-no-digit-worth c m =
-    let small = missed-before (NoSmall c) 65 6 c m in
-    let decimal = missed-before (NoDecimal c) 97 6 c small in
-    cases (leb 48 c && leb c 57)
-    (λ e. let f = range-facts 48 57 c e in absurd (missed-range (Unit {0}) 48 10 c decimal (omega arith) (omega arith)))
-    (λ e. cases (leb 97 c && leb c 102)
-    (λ g. let f = range-facts 97 102 c g in absurd (missed-range (NoDecimal c) 97 6 c small (omega arith) (omega arith)))
-    (λ g. cases (leb 65 c && leb c 70)
-    (λ k. let f = range-facts 65 70 c k in absurd (missed-range (NoSmall c) 65 6 c m (omega arith) (omega arith)))
-    (λ k. simp (e, g, k))))

@@ -46,7 +46,9 @@ module _ (P : OrderLine → Type 0) where
   order-cases numbers words bad line =
       picked P (ltb longest (length line))
       (λ e. bad)
-      (λ e. numbered-cases numberLines numbers line (whole wholeLines line (Refused badOrderLine)) (whole-cases wholeLines words line (Refused badOrderLine) bad))
+      (λ e.
+      let words-or-not = whole-cases wholeLines words line (Refused badOrderLine) bad in
+      numbered-cases numberLines numbers line (whole wholeLines line (Refused badOrderLine)) words-or-not)
 
 -- ---- a trace line
 

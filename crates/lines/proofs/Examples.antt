@@ -1,4 +1,4 @@
--- Lines of document 01 and their edges, over the definitions: each is computed. Assumes nothing.
+-- Lines of each form and their edges, over the definitions: each is computed. Assumes nothing.
 use Prim.Native.Nat.{ℕ}
 use mathlib.Core.Path.{_≡_, refl}
 use mathlib.Core.List.{List, [], _∷_, _++_, map}

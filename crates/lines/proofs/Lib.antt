@@ -2,4 +2,5 @@ pub mod ByteLaws
 pub mod CaseLaws
 pub mod Examples
 pub mod OrderLaws
+pub mod SaidLaws
 pub mod TraceLaws

@@ -31,8 +31,8 @@ use Rattle.lines.specs.OrderLine.{
 use Rattle.lines.specs.Parts.{numberOf, numberAfter}
 use Rattle.lines.specs.declared.OrderLine.{OrderLine}
 use Rattle.lines.specs.declared.OrderLine.the-variants.{Refused}
-use Rattle.lines.specs.declared.Number.{Number}
-use Rattle.lines.specs.declared.Number.the-variants.{Value, Wrong}
+use Rattle.lines.specs.declared.decimal.Number.{Number}
+use Rattle.lines.specs.declared.decimal.Number.the-variants.{Value, Wrong}
 
 -- ---- names
 

@@ -1,4 +1,4 @@
--- What a line of the order reads as (document 01, "Program, order lines and din lines"): exactly a name, `=` and a number;
+-- What a line of the order reads as (SCOPE, "Program, order lines and din lines"): exactly a name, `=` and a number;
 -- `kinds=` and one of its three words; or `begin=din`. Every other line is refused with 10: no blank, CR, sign or capital is taken.
 -- Which line may stand where is not said here. The line is given without its LF. Assumes nothing.
 use Prim.Native.Nat.{ℕ, _+_, _-_, _*_, min}
@@ -97,15 +97,3 @@ labelsOf Data = 0 ∷ 1 ∷ []
 
 abbrev pub countsKind : Kinds → Kind → Bool
 countsKind kinds kind = mem (labelOf kind) (labelsOf kinds)
-
--- the refusal number of each case: 0 where the line is good
-abbrev pub orderNumber : OrderLine → ℕ
-orderNumber (Bmin n) = 0
-orderNumber (Bmax n) = 0
-orderNumber (Smax n) = 0
-orderNumber (Ways n) = 0
-orderNumber (Room n) = 0
-orderNumber (Refs n) = 0
-orderNumber (Counting kinds) = 0
-orderNumber Begin = 0
-orderNumber (Refused n) = n

@@ -9,8 +9,8 @@ use lib.ListN.{length, drop, getD}
 use Rattle.lines.specs.Bytes.{isBlank, isHex, hexValue}
 use Rattle.lines.specs.TraceLine.{inAddress}
 use Rattle.lines.specs.OrderLine.{isNumber, valueOf, isNumbered, after}
-use Rattle.lines.specs.declared.Number.{Number}
-use Rattle.lines.specs.declared.Number.the-variants.{Value, Wrong}
+use Rattle.lines.specs.declared.decimal.Number.{Number}
+use Rattle.lines.specs.declared.decimal.Number.the-variants.{Value, Wrong}
 
 -- how many blanks stand at the front
 unfoldable pub blanks : List ℕ → ℕ

@@ -1,4 +1,4 @@
--- What a line of the trace reads as (document 01, "Program, order lines and din lines"; the Dinero III format din):
+-- What a line of the trace reads as (SCOPE, "Program, order lines and din lines"; the Dinero III format din):
 -- a label 0 to 4, one or more spaces or tabs, 1 to 8 hex digits, then the end, or a space or tab and a comment of any bytes.
 -- Every other line is refused with 11. The line is given without its LF. Assumes nothing.
 use Prim.Native.Nat.{ℕ, suc, _+_, _*_}
@@ -57,9 +57,3 @@ labelOf Read = 0
 labelOf Write = 1
 labelOf Fetch = 2
 labelOf Unknown = 3
-
--- the refusal number of each case: 0 where the line is good
-abbrev pub traceNumber : TraceLine → ℕ
-traceNumber (Ref kind address) = 0
-traceNumber Skipped = 0
-traceNumber (Refused n) = n

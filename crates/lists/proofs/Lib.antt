@@ -2,6 +2,7 @@ pub mod BoolLaws
 pub mod Cases
 pub mod CutLaws
 pub mod DistinctLaws
+pub mod LengthLaws
 pub mod MemberLaws
 pub mod PartLaws
 pub mod PassLaws

@@ -1,2 +1,3 @@
 mod CountLaws
 pub mod StepLaws
+pub mod TableLaws

@@ -2,7 +2,7 @@
 -- Assumes nothing.
 use Prim.Native.Nat.{ℕ, _+_, _≤_, _<_}
 use mathlib.Core.Path.{_≡_, refl, sym, ap, ap₂, _∙_}
-use mathlib.Core.Bool.{Bool, true, false, cond}
+use mathlib.Core.Bool.{Bool, true, false, cond, _||_}
 use mathlib.Core.List.{List}
 use native.Mathlib.Omega.{arith}
 use lib.Dec.{eqb, ltb}
@@ -16,14 +16,16 @@ use Rattle.taking.specs.World.{World}
 use Rattle.taking.specs.Opening.{openAnswer, opened, unopened, Opens}
 use Rattle.taking.specs.Taking.{takeAnswer, taken, Takes}
 use Rattle.units.specs.declared.Addr.{Addr}
-use Rattle.units.specs.Refusals.{done, badOrderLine}
+use Rattle.units.specs.Refusals.{badOrderLine}
 use Rattle.lines.specs.declared.Kind.{Kind}
 use Rattle.lines.specs.declared.TraceLine.the-variants.{Ref}
 use Rattle.lines.specs.Bytes.{longest}
 use Rattle.lines.specs.TraceLine.{traceLineOf}
 use Rattle.lines.specs.OrderLine.{orderLineOf, countsKind}
-use Rattle.reading.specs.declared.Reading.{Reading}
-use Rattle.reading.specs.Reading.{Desk, desk, Outcome, outcome, worldOf, withWorld, withReading, withStage, withLines, withSkipped, answered, begun, beginAt, orderOf, opening, takes, inTrace, isTooMany, stays, stepOf, longLine, orderStep, traceStep}
+use Rattle.reading.specs.Reading.{kindsNext, beginNext, traceNext, withStage, withReading, worldOf, withWorld}
+use Rattle.reading.specs.Reading.{Desk, desk, Outcome, outcome, answered, stays}
+use Rattle.reading.specs.Head.{begun, beginAt, orderOf, opening}
+use Rattle.reading.specs.Step.{takes, passed, traceStep, inTrace, isTooMany, stepOf, longLine}
 
 -- a taking: the world handed back goes into the next state
 pub taken-outcome : (d : Desk) (g : Given) (n : ℕ) (w : World) → Takes (worldOf d) g n w → outcome n (withWorld w d) ≡ takes d g
@@ -36,36 +38,52 @@ module _ (d : Desk) (n : ℕ) (w : World) (t : Opens (orderOf (d .reading)) (uno
   abbrev o : Order
   o = orderOf (d .reading)
 
+  abbrev answer : ℕ
+  answer = openAnswer o (worldOf d)
+
+  abbrev old : World
+  old = unopened (d .stacks) (d .counts)
+
+  -- the desk of the trace
+  abbrev next : Desk
+  next = withReading (withStage traceNext (d .reading)) d
+
   -- an opening that is done: the trace begins
-  pub opened-outcome : n ≡ 0 → outcome n (withWorld w (withReading (withStage 8 (d .reading)) d)) ≡ opening d
+  pub opened-outcome : n ≡ 0 → outcome n (withWorld w next) ≡ opening d
   opened-outcome e =
       let zero = sym (t .answer) ∙ e in
       ap₂ outcome (t .answer)
-      (ap (λ (x : World). withWorld x (withReading (withStage 8 (d .reading)) d)) (t .left ∙ settled-done (openAnswer o (worldOf d)) (opened o (worldOf d)) (unopened (d .stacks) (d .counts)) zero)
-      ∙ sym (settled-done (openAnswer o (worldOf d)) (begun o d) d zero))
+      (ap (λ (x : World). withWorld x next) (t .left ∙ settled-done answer (opened o (worldOf d)) old zero)
+      ∙ sym (settled-done answer (begun o d) d zero))
 
   -- one that is refused: the state stays
   pub unopened-outcome : (n ≡ 0 → ⊥) → outcome n (desk (d .reading) (w .stacks) (w .counts)) ≡ opening d
   unopened-outcome ne =
-      let other : openAnswer o (worldOf d) ≡ 0 → ⊥ = λ z. ne (t .answer ∙ z) in
+      let other : answer ≡ 0 → ⊥ = λ z. ne (t .answer ∙ z) in
       ap₂ outcome (t .answer)
-      (ap (λ (x : World). desk (d .reading) (x .stacks) (x .counts)) (t .left ∙ settled-not (openAnswer o (worldOf d)) (opened o (worldOf d)) (unopened (d .stacks) (d .counts)) other)
-      ∙ sym (settled-not (openAnswer o (worldOf d)) (begun o d) d other))
+      (ap (λ (x : World). desk (d .reading) (x .stacks) (x .counts)) (t .left ∙ settled-not answer (opened o (worldOf d)) old other)
+      ∙ sym (settled-not answer (begun o d) d other))
 
--- the begin line stands at stages 6 and 7
-pub begin-stands : (d : Desk) → 6 ≤ d .reading .stage → d .reading .stage ≤ 7 → opening d ≡ beginAt d
+-- the begin line stands at two stages, and at no other
+pub begin-stands : (d : Desk) → kindsNext ≤ d .reading .stage → d .reading .stage ≤ beginNext → opening d ≡ beginAt d
 begin-stands d h g =
-    cases (eqb (d .reading .stage) 6)
+    cases (eqb (d .reading .stage) kindsNext)
     (λ e. simp e)
     (λ e.
-    let other : d .reading .stage ≡ 6 → ⊥ = eqb-false (d .reading .stage) 6 e in
-    simp (e, eq-eqb (d .reading .stage) 7 (omega (arith, other))))
+    let other : d .reading .stage ≡ kindsNext → ⊥ = eqb-false (d .reading .stage) kindsNext e in
+    simp (e, eq-eqb (d .reading .stage) beginNext (omega (arith, other))))
+
+pub begin-out-of-place : (d : Desk) → (d .reading .stage ≡ kindsNext → ⊥) → (d .reading .stage ≡ beginNext → ⊥)
+    → stays (answered badOrderLine (d .reading)) d ≡ beginAt d
+begin-out-of-place d early late = simp (ne-eqb (d .reading .stage) kindsNext early, ne-eqb (d .reading .stage) beginNext late)
 
 -- a reference, by whether its kind is counted
-pub counted-step : (d : Desk) (kind : Kind) (a : Addr) → countsKind (d .reading .kinds) kind ≡ true → traceStep d (Ref kind a) ≡ takes d (ref (a .0))
+pub counted-step : (d : Desk) (kind : Kind) (a : Addr) → countsKind (d .reading .head .kinds) kind ≡ true
+    → takes d (ref (a .0)) ≡ traceStep d (Ref kind a)
 counted-step d kind a e = simp e
 
-pub passed-step : (d : Desk) (kind : Kind) (a : Addr) → countsKind (d .reading .kinds) kind ≡ false → traceStep d (Ref kind a) ≡ stays (answered done (withSkipped (d .reading))) d
+pub passed-step : (d : Desk) (kind : Kind) (a : Addr) → countsKind (d .reading .head .kinds) kind ≡ false
+    → stays (passed (d .reading)) d ≡ traceStep d (Ref kind a)
 passed-step d kind a e = simp e
 
 -- a line longer than the buffer: `long_line` answers as `step` would, whatever the line says

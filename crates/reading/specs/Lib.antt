@@ -1,2 +1,4 @@
+pub mod Head
 pub mod Reading
-pub mod Input
+pub mod Step
+pub mod Tables

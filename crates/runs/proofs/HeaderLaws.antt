@@ -8,37 +8,47 @@ use lib.Dec.{eqb}
 use lib.ListN.{length, take, getD, set, length-set, length-take}
 use borrow.Author.Tests.{eqb-true}
 use Rattle.lists.proofs.Cases.{both-picked}
+use Rattle.lists.proofs.LengthLaws.{six-cases}
 use Rattle.lines.specs.declared.Kinds.{Kinds}
 use Rattle.lines.specs.declared.Kinds.the-variants.{All}
 use Rattle.lines.specs.declared.OrderLine.{OrderLine}
 use Rattle.lines.specs.declared.OrderLine.the-variants.{Bmin, Bmax, Smax, Ways, Room, Refs, Kinds as Counting}
+use Rattle.reading.specs.declared.Head.{Head}
 use Rattle.reading.specs.declared.Reading.{Reading}
 use Rattle.reading.specs.declared.Step.{Step}
-use Rattle.reading.specs.Reading.{Desk, Outcome, worldOf, inTrace, answered, stays, numberAt, kindsAt}
+use Rattle.reading.specs.Reading.{kindsNext, beginNext, Desk, worldOf, Outcome, answered, stays}
+use Rattle.reading.specs.Head.{withNumber, numberAt, kindsAt}
+use Rattle.reading.specs.Step.{inTrace}
 use Rattle.runs.specs.Input.{isBegin, orderIn, kindsIn}
 use Rattle.calls.proofs.HistoryLaws.{History}
 
 -- the lines of an order's six numbers and of its kinds
-abbrev pub saidBy : List ℕ → Kinds → List OrderLine
-saidBy numbers kinds =
-    Bmin (getD numbers 0 0) ∷ Bmax (getD numbers 1 0) ∷ Smax (getD numbers 2 0) ∷ Ways (getD numbers 3 0) ∷ Room (getD numbers 4 0) ∷ Refs (getD numbers 5 0)
-    ∷ Counting kinds ∷ []
+abbrev pub saidBy : Head → List OrderLine
+saidBy h =
+    Bmin (getD (h .numbers) 0 0)
+    ∷ Bmax (getD (h .numbers) 1 0)
+    ∷ Smax (getD (h .numbers) 2 0)
+    ∷ Ways (getD (h .numbers) 3 0)
+    ∷ Room (getD (h .numbers) 4 0)
+    ∷ Refs (getD (h .numbers) 5 0)
+    ∷ Counting (h .kinds)
+    ∷ []
 
 -- what the lines so far read as, in a state before the trace: the stage says how many they are
 pub record Heading (v : Reading) (said : List OrderLine) : Type 0 where
-  pub stage : v .stage ≤ 7
-  pub six : length (v .numbers) ≡ 6
-  pub kinds : v .stage ≤ 6 → v .kinds ≡ All
-  pub reads : said ≡ take (v .stage) (saidBy (v .numbers) (v .kinds))
-  pub skipped : v .skipped ≡ 0
+  pub stage : v .stage ≤ beginNext
+  pub six : length (v .head .numbers) ≡ 6
+  pub kinds : v .stage ≤ kindsNext → v .head .kinds ≡ All
+  pub reads : said ≡ take (v .stage) (saidBy (v .head))
+  pub skipped : v .tally .skipped ≡ 0
 
 -- the begin line is done: the trace begins, and nothing is taken or skipped yet
 pub record Begun (said : List OrderLine) (o : Outcome) : Type 0 where
   pub trace : inTrace (o .left .reading) ≡ true
   pub order : o .left .reading .opened .order ≡ orderIn said
-  pub kinds : o .left .reading .kinds ≡ kindsIn said
+  pub kinds : o .left .reading .head .kinds ≡ kindsIn said
   pub history : History (worldOf (o .left)) []
-  pub skipped : o .left .reading .skipped ≡ 0
+  pub skipped : o .left .reading .tally .skipped ≡ 0
 
 -- the answer to the line l is n
 pub record Headed (d : Desk) (said : List OrderLine) (l : OrderLine) (n : ℕ) (o : Outcome) : Type 0 where
@@ -46,26 +56,23 @@ pub record Headed (d : Desk) (said : List OrderLine) (l : OrderLine) (n : ℕ) (
   pub going : o .answer ≡ 0 → isBegin l ≡ false → Heading (o .left .reading) (said ++ (l ∷ [])) × (worldOf (o .left) ≡ worldOf d)
   pub begun : o .answer ≡ 0 → isBegin l ≡ true → Begun said o
 
--- six numbers, of which one is set
-six-cases : (P : List ℕ → Type 0) → ((a b c d e f : ℕ) → P (a ∷ b ∷ c ∷ d ∷ e ∷ f ∷ [])) → (l : List ℕ) → length l ≡ 6 → P l
-six-cases P p [] h = absurd (omega arith)
-six-cases P p (a ∷ []) h = absurd (omega arith)
-six-cases P p (a ∷ b ∷ []) h = absurd (omega arith)
-six-cases P p (a ∷ b ∷ c ∷ []) h = absurd (omega arith)
-six-cases P p (a ∷ b ∷ c ∷ d ∷ []) h = absurd (omega arith)
-six-cases P p (a ∷ b ∷ c ∷ d ∷ e ∷ []) h = absurd (omega arith)
-six-cases P p (a ∷ b ∷ c ∷ d ∷ e ∷ f ∷ []) h = p a b c d e f
-six-cases P p (a ∷ b ∷ c ∷ d ∷ e ∷ f ∷ g ∷ l) h = absurd (omega arith)
+-- a head of these numbers and kinds
+abbrev headOf : List ℕ → Kinds → Head
+headOf numbers k = record { numbers = numbers; kinds = k }
+
+-- the line of number `place` is l, whatever the head said before
+abbrev Placed : ℕ → ℕ → OrderLine → Head → Type 0
+Placed place n l h = take place (saidBy h) ++ (l ∷ []) ≡ take (place + 1) (saidBy (withNumber place n h))
 
 module _ (d : Desk) (said : List OrderLine) (h : Heading (d .reading) said) where
   abbrev v : Reading
   v = d .reading
 
-  pub so-far : (n : ℕ) → v .stage ≡ n → said ≡ take n (saidBy (v .numbers) (v .kinds))
-  so-far n at = h .reads ∙ ap (λ (m : ℕ). take m (saidBy (v .numbers) (v .kinds))) at
+  pub so-far : (n : ℕ) → v .stage ≡ n → said ≡ take n (saidBy (v .head))
+  so-far n at = h .reads ∙ ap (λ (m : ℕ). take m (saidBy (v .head))) at
 
   pub stage-is : v .stage ≡ length said
-  stage-is = omega (arith, h .stage, ap length (h .reads) ∙ length-take (v .stage) (saidBy (v .numbers) (v .kinds)))
+  stage-is = omega (arith, h .stage, ap length (h .reads) ∙ length-take (v .stage) (saidBy (v .head)))
 
   pub few-said : length said ≤ 7
   few-said = omega (arith, h .stage, stage-is)
@@ -74,7 +81,7 @@ module _ (d : Desk) (said : List OrderLine) (h : Heading (d .reading) said) wher
   refuses l = record { answer = refl; going = λ e. absurd (omega arith); begun = λ e. absurd (omega arith) }
 
   pub number-headed : (place n : ℕ) (l : OrderLine) → place < 6 → isBegin l ≡ false
-      → ((a b c d e f : ℕ) (k : Kinds) → take place (saidBy (a ∷ b ∷ c ∷ d ∷ e ∷ f ∷ []) k) ++ (l ∷ []) ≡ take (place + 1) (saidBy (set (a ∷ b ∷ c ∷ d ∷ e ∷ f ∷ []) place n) k))
+      → ((a b c d e f : ℕ) (k : Kinds) → Placed place n l (headOf (a ∷ b ∷ c ∷ d ∷ e ∷ f ∷ []) k))
       → Headed d said l (cond (eqb (length said) place) 0 10) (stays (numberAt place n v) d)
   number-headed place n l p other placed =
       subst (λ (m : ℕ). Headed d said l (cond (eqb m place) 0 10) (stays (numberAt place n v) d)) stage-is
@@ -86,10 +93,11 @@ module _ (d : Desk) (said : List OrderLine) (h : Heading (d .reading) said) wher
         going = λ z f. (
           record {
             stage = omega arith;
-            six = length-set (v .numbers) place n ∙ h .six;
+            six = length-set (v .head .numbers) place n ∙ h .six;
             kinds = λ g. h .kinds (omega arith);
             reads = ap (λ (s : List OrderLine). s ++ (l ∷ [])) (so-far place at)
-                ∙ six-cases (λ (x : List ℕ). take place (saidBy x (v .kinds)) ++ (l ∷ []) ≡ take (place + 1) (saidBy (set x place n) (v .kinds))) (λ a b c d e f. placed a b c d e f (v .kinds)) (v .numbers) (h .six);
+                ∙ six-cases (λ (x : List ℕ). Placed place n l (headOf x (v .head .kinds)))
+                (λ a b c d e f. placed a b c d e f (v .head .kinds)) (v .head .numbers) (h .six);
             skipped = h .skipped;
           },
           refl,
@@ -98,12 +106,12 @@ module _ (d : Desk) (said : List OrderLine) (h : Heading (d .reading) said) wher
       })
       (λ e. refuses l))
 
-  pub kinds-headed : (k : Kinds) → Headed d said (Counting k) (cond (eqb (length said) 6) 0 10) (stays (kindsAt k v) d)
+  pub kinds-headed : (k : Kinds) → Headed d said (Counting k) (cond (eqb (length said) kindsNext) 0 10) (stays (kindsAt k v) d)
   kinds-headed k =
-      subst (λ (m : ℕ). Headed d said (Counting k) (cond (eqb m 6) 0 10) (stays (kindsAt k v) d)) stage-is
-      (both-picked (λ (m : ℕ) (s : Step). Headed d said (Counting k) m (stays s d)) (eqb (v .stage) 6)
+      subst (λ (m : ℕ). Headed d said (Counting k) (cond (eqb m kindsNext) 0 10) (stays (kindsAt k v) d)) stage-is
+      (both-picked (λ (m : ℕ) (s : Step). Headed d said (Counting k) m (stays s d)) (eqb (v .stage) kindsNext)
       (λ e.
-      let at = eqb-true (v .stage) 6 e in
+      let at = eqb-true (v .stage) kindsNext e in
       record {
         answer = refl;
         going = λ z f. (
@@ -111,7 +119,7 @@ module _ (d : Desk) (said : List OrderLine) (h : Heading (d .reading) said) wher
             stage = omega arith;
             six = h .six;
             kinds = λ g. absurd (omega arith);
-            reads = ap (λ (s : List OrderLine). s ++ (Counting k ∷ [])) (so-far 6 at);
+            reads = ap (λ (s : List OrderLine). s ++ (Counting k ∷ [])) (so-far kindsNext at);
             skipped = h .skipped;
           },
           refl,

@@ -1,4 +1,4 @@
--- The input of document 01 and some of its edges, over the definitions: each is computed. Assumes nothing.
+-- The input of SCOPE and some of its edges, over the definitions: each is computed. Assumes nothing.
 use Prim.Native.Nat.{ℕ}
 use mathlib.Core.Path.{_≡_, refl}
 use mathlib.Core.List.{List, [], _∷_, _++_, map}
@@ -41,10 +41,14 @@ table =
     ∷ []
 
 pub input-examples : map (λ e. inputEnding (unopened (replicate 8 0) (replicate 4 0)) [] (e .0)) table ≡ map (λ e. e .1) table
-unfolding inputEnding traceEnding traceLineOf atLabel atGap inGap inAddress orderLineOf numbered whole startsWith isNumber allDecimal decimal blockOf anyTo allLe
+unfolding inputEnding traceEnding blockOf anyTo allLe traceLineOf atLabel atGap inGap inAddress
+    orderLineOf numbered whole startsWith isNumber allDecimal decimal
 input-examples = refl
 
-pub reference-examples : map (λ lines. givenOf lines) ((order (text "room=8") (text "refs=9") ++ begin ++ trace) ∷ (order (text "room=8") (text "refs=9") ++ (text "kinds=data" ∷ begin) ++ trace) ∷ [])
+abbrev counting : List (List ℕ) → List (List ℕ)
+counting kinds = order (text "room=8") (text "refs=9") ++ kinds ++ begin ++ trace
+
+pub reference-examples : map givenOf (counting [] ∷ counting (text "kinds=data" ∷ []) ∷ [])
     ≡ map (map ref) ((0 ∷ 16 ∷ 32 ∷ 0 ∷ 20 ∷ 64 ∷ 0 ∷ 32 ∷ []) ∷ (64 ∷ []) ∷ [])
 unfolding headerOf traceOf givenIn traceLineOf atLabel atGap inGap inAddress orderLineOf numbered whole startsWith isNumber allDecimal decimal
 reference-examples = refl

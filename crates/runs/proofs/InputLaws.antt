@@ -9,10 +9,10 @@ use borrow.Author.Tests.{eq-eqb, ne-eqb, eqb-true, eqb-false}
 use Rattle.lists.proofs.Cases.{picked}
 use Rattle.reading.specs.declared.Reading.{Reading}
 use Rattle.reading.specs.declared.Step.{Step}
-use Rattle.reading.specs.Reading.{Desk, Outcome, outcome, inTrace, isTooMany, stays, stepOf, longLine}
-use Rattle.reading.specs.Input.{runFrom}
+use Rattle.reading.specs.Reading.{Desk, Outcome, outcome, stays}
+use Rattle.reading.specs.Step.{inTrace, isTooMany, stepOf, longLine}
 use Rattle.reading.proofs.StepLaws.{long-line-is-step}
-use Rattle.runs.specs.Input.{Runs, at-end, done, refused, too-long}
+use Rattle.runs.specs.Input.{Runs, at-end, done, refused, too-long, runFrom}
 
 -- the run from a step's outcome on
 abbrev goesOn : Outcome → List (List ℕ) → Outcome
@@ -34,7 +34,8 @@ long-refused v =
 pub run-determined : {d : Desk} {lines : List (List ℕ)} {o : Outcome} → Runs d lines o → o ≡ runFrom d lines
 unfolding runFrom
 run-determined (at-end {d} {r} e) = ap (λ (s : Step). stays s d) e
-run-determined (done {d} {d′} {line} {more} {n} {o} c e rest) = run-determined rest ∙ sym (goes-on-done (outcome n d′) more e) ∙ ap (λ (x : Outcome). goesOn x more) c
+run-determined (done {d} {d′} {line} {more} {n} {o} c e rest) =
+    run-determined rest ∙ sym (goes-on-done (outcome n d′) more e) ∙ ap (λ (x : Outcome). goesOn x more) c
 run-determined (refused {d} {d′} {line} {more} {n} c ne) = sym (goes-on-refused (outcome n d′) more ne) ∙ ap (λ (x : Outcome). goesOn x more) c
 run-determined (too-long {d} {line} {more} {r} h e) =
     sym (goes-on-refused (stays r d) more (λ z. long-refused (d .reading) (sym (ap (λ (s : Step). s .answer) e) ∙ z)))

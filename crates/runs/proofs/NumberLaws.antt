@@ -2,15 +2,15 @@
 -- Assumes nothing.
 use Prim.Native.Nat.{ℕ, _+_, _≤_, _<_}
 use mathlib.Core.Path.{_≡_, refl, sym, ap, _∙_, subst}
-use mathlib.Core.Bool.{Bool, false, cond}
+use mathlib.Core.Bool.{false, _||_}
 use mathlib.Core.List.{List}
 use native.Mathlib.Omega.{arith}
 use lib.Dec.{eqb}
-use borrow.Author.Tests.{ne-eqb, leb-true, leb-false}
+use borrow.Author.Tests.{leb-true, leb-false}
 use Rattle.lists.specs.Tests.{settled}
 use Rattle.lists.proofs.TestLaws.{settled-not}
+use Rattle.lists.proofs.Cases.{picked, both-picked}
 use Rattle.cache.specs.Cache.{Given, ref}
-use Rattle.lists.proofs.Cases.{picked}
 use Rattle.taking.specs.Opening.{openAnswer}
 use Rattle.taking.specs.Taking.{takeAnswer, taken}
 use Rattle.lines.specs.declared.Kinds.{Kinds}
@@ -22,7 +22,10 @@ use Rattle.lines.specs.TraceLine.{traceLineOf}
 use Rattle.lines.proofs.CaseLaws.{order-cases, trace-cases}
 use Rattle.reading.specs.declared.Reading.{Reading}
 use Rattle.reading.specs.declared.Step.{Step}
-use Rattle.reading.specs.Reading.{Desk, Outcome, outcome, worldOf, withWorld, withReading, inTrace, isTooMany, withLines, withSkipped, answered, stays, numberAt, kindsAt, orderOf, begun, opening, beginAt, orderStep, takes, traceStep, counted, stepOf, Steps}
+use Rattle.reading.specs.Reading.{kindsNext, beginNext, withLines, withTally, oneSkipped}
+use Rattle.reading.specs.Reading.{Desk, worldOf, withWorld, withReading, Outcome, outcome, answered, stays}
+use Rattle.reading.specs.Head.{numberAt, kindsAt, orderOf, begun, opening, beginAt, orderStep}
+use Rattle.reading.specs.Step.{takes, passed, traceStep, inTrace, linesMost, isTooMany, counted, stepOf, Steps}
 
 -- a line that was counted and is read
 record Numbered (d : Desk) (o : Outcome) : Type 0 where
@@ -44,54 +47,57 @@ module _ (d : Desk) where
   }
 
   number-numbered : (place n : ℕ) → Numbered d (stays (numberAt place n (d .reading)) d)
-  number-numbered place n = picked (λ (s : Step). Numbered d (stays s d)) (eqb (d .reading .stage) place) (λ e. goes-on _ refl) (λ e. refuses 10)
+  number-numbered place n =
+      picked (λ (s : Step). Numbered d (stays s d)) (eqb (d .reading .stage) place) (λ e. goes-on _ refl) (λ e. refuses 10)
 
   kinds-numbered : (k : Kinds) → Numbered d (stays (kindsAt k (d .reading)) d)
-  kinds-numbered k = picked (λ (s : Step). Numbered d (stays s d)) (eqb (d .reading .stage) 6) (λ e. goes-on _ refl) (λ e. refuses 10)
+  kinds-numbered k = picked (λ (s : Step). Numbered d (stays s d)) (eqb (d .reading .stage) kindsNext) (λ e. goes-on _ refl) (λ e. refuses 10)
 
-  opening-numbered : Numbered d (opening d)
-  opening-numbered = decided (openAnswer (orderOf (d .reading)) (worldOf d)) (begun (orderOf (d .reading)) d) refl
+  begin-numbered : Numbered d (beginAt d)
+  begin-numbered =
+      picked (Numbered d) (eqb (d .reading .stage) kindsNext || eqb (d .reading .stage) beginNext)
+      (λ e. decided (openAnswer (orderOf (d .reading)) (worldOf d)) (begun (orderOf (d .reading)) d) refl)
+      (λ e. refuses 10)
 
   order-numbered : (line : List ℕ) → Numbered d (orderStep d (orderLineOf line))
   order-numbered =
       order-cases (λ (l : OrderLine). Numbered d (orderStep d l))
       (number-numbered 0, (number-numbered 1, (number-numbered 2, (number-numbered 3, (number-numbered 4, (number-numbered 5, tt))))))
-      (kinds-numbered All, (kinds-numbered Fetch, (kinds-numbered Data, (begin, tt))))
+      (kinds-numbered All, (kinds-numbered Fetch, (kinds-numbered Data, (begin-numbered, tt))))
       (refuses 10)
-    where
-      begin : Numbered d (beginAt d)
-      begin =
-          picked (Numbered d) (eqb (d .reading .stage) 6)
-          (λ e. opening-numbered)
-          (λ e. picked (Numbered d) (eqb (d .reading .stage) 7) (λ f. opening-numbered) (λ f. refuses 10))
 
   taking-numbered : (g : Given) → Numbered d (takes d g)
   taking-numbered g = decided (takeAnswer (worldOf d) g) (withWorld (taken (worldOf d) g) d) refl
 
+  passed-numbered : Numbered d (stays (passed (d .reading)) d)
+  passed-numbered = goes-on (withTally (oneSkipped (d .reading .tally)) (d .reading)) refl
+
   trace-numbered : (line : List ℕ) → Numbered d (traceStep d (traceLineOf line))
   trace-numbered =
       trace-cases (λ (t : TraceLine). Numbered d (traceStep d t))
-      (λ kind a. picked (Numbered d) (countsKind (d .reading .kinds) kind) (λ e. taking-numbered (ref (a .0))) (λ e. goes-on (withSkipped (d .reading)) refl))
-      (goes-on (withSkipped (d .reading)) refl)
+      (λ kind a. picked (Numbered d) (countsKind (d .reading .head .kinds) kind) (λ e. taking-numbered (ref (a .0))) (λ e. passed-numbered))
+      passed-numbered
       (refuses 11)
 
 -- a step: the line's number is one more than were read before, and there is a number left for a line that is done
 pub record Reported (d : Desk) (o : Outcome) : Type 0 where
-  pub number : d .reading .lines ≤ 4294967295 → o .left .reading .lines ≡ d .reading .lines + 1
-  pub room : o .answer ≡ 0 → d .reading .lines < 4294967295
+  pub number : d .reading .lines ≤ linesMost → o .left .reading .lines ≡ d .reading .lines + 1
+  pub room : o .answer ≡ 0 → d .reading .lines < linesMost
   pub kept : (o .answer ≡ 0 → ⊥) → o ≡ stays (answered (o .answer) (withLines (o .left .reading .lines) (d .reading))) d
 
 pub step-reported : (d : Desk) (line : List ℕ) → Reported d (stepOf d line)
 step-reported d line =
     picked (Reported d) (isTooMany (d .reading))
-    (λ e. let many = leb-true 4294967295 (d .reading .lines) e in record { number = λ h. omega arith; room = λ z. absurd (omega arith); kept = λ ne. refl })
+    (λ e.
+    let many = leb-true linesMost (d .reading .lines) e in
+    record { number = λ h. omega arith; room = λ z. absurd (omega arith); kept = λ ne. refl })
     (λ e. picked (Reported d) (inTrace (d .reading))
     (λ f. read e (traceStep (counted d) (traceLineOf line)) (trace-numbered (counted d) line))
     (λ f. read e (orderStep (counted d) (orderLineOf line)) (order-numbered (counted d) line)))
   where
     read : isTooMany (d .reading) ≡ false → (o : Outcome) → Numbered (counted d) o → Reported d o
     read e o n =
-        let below = leb-false 4294967295 (d .reading .lines) e in
+        let below = leb-false linesMost (d .reading .lines) e in
         record {
           number = λ h. n .number;
           room = λ z. below;
@@ -99,5 +105,6 @@ step-reported d line =
         }
 
 -- a line that is refused leaves all but the line's number
-pub refused-line : (d : Desk) (line : List ℕ) (n : ℕ) (d′ : Desk) → Steps d line n d′ → (n ≡ 0 → ⊥) → d′ ≡ withReading (withLines (d′ .reading .lines) (d .reading)) d
+pub refused-line : (d : Desk) (line : List ℕ) (n : ℕ) (d′ : Desk) → Steps d line n d′ → (n ≡ 0 → ⊥)
+    → d′ ≡ withReading (withLines (d′ .reading .lines) (d .reading)) d
 refused-line d line n d′ c ne = ap (λ (o : Outcome). o .left) (subst (Reported d) (sym c) (step-reported d line) .kept ne)

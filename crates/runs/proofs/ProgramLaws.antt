@@ -21,9 +21,9 @@ use Rattle.lines.specs.declared.OrderLine.{OrderLine}
 use Rattle.lines.specs.OrderLine.{orderLineOf}
 use Rattle.reading.specs.declared.Reading.{Reading}
 use Rattle.reading.specs.declared.Step.{Step}
-use Rattle.reading.specs.Reading.{Desk, desk, Outcome, worldOf, inTrace, start, stays, stepOf}
-use Rattle.reading.specs.Input.{runFrom}
-use Rattle.runs.specs.Input.{Runs, isBegin, headerOf, traceOf, orderIn, kindsIn, givenIn, givenOf}
+use Rattle.reading.specs.Reading.{traceNext, start, Desk, desk, worldOf, Outcome, stays}
+use Rattle.reading.specs.Step.{inTrace, linesMost, stepOf}
+use Rattle.runs.specs.Input.{Runs, runFrom, isBegin, headerOf, traceOf, orderIn, kindsIn, givenIn, givenOf}
 use Rattle.runs.specs.Endings.{Ending, endsAt, traceEnding, inputEnding}
 use Rattle.calls.proofs.HistoryLaws.{History}
 use Rattle.runs.proofs.InputLaws.{run-determined}
@@ -32,14 +32,14 @@ use Rattle.calls.proofs.QuestionLaws.{misses-are}
 use Rattle.runs.proofs.NumberLaws.{step-reported}
 use Rattle.runs.proofs.HeaderLaws.{Heading, Begun, few-said}
 use Rattle.runs.proofs.BeginLaws.{step-headed}
-use Rattle.runs.proofs.TraceLaws.{run-follows}
+use Rattle.runs.proofs.TraceLaws.{orderOn, kindsOn, toldOn, run-follows}
 
 -- ---- where the lines before them read as `said`
 
 record Serves (said : List OrderLine) (lines : List (List ℕ)) (o : Outcome) : Type 0 where
-  order : o .left .reading .opened .order ≡ orderIn (said ++ headerOf lines)
+  order : orderOn (o .left) ≡ orderIn (said ++ headerOf lines)
   history : History (worldOf (o .left)) (givenIn (kindsIn (said ++ headerOf lines)) (traceOf lines))
-  told : o .left .reading .opened .taken + o .left .reading .skipped ≡ length (traceOf lines)
+  told : toldOn (o .left) ≡ length (traceOf lines)
 
 record Leads (said : List OrderLine) (lines : List (List ℕ)) (e : Ending) (o : Outcome) : Type 0 where
   answer : o .answer ≡ e .answer
@@ -48,13 +48,16 @@ record Leads (said : List OrderLine) (lines : List (List ℕ)) (e : Ending) (o :
 
 module _ (line : List ℕ) (more : List (List ℕ)) (said : List OrderLine) (o : Outcome) where
   -- after the begin line
-  begins : isBegin (orderLineOf line) ≡ true → Begun said o → o .left .reading .lines ≡ length said + 1 → o .left .reading .lines ≤ 4294967295
+  begins : isBegin (orderLineOf line) ≡ true → Begun said o → o .left .reading .lines ≡ length said + 1 → o .left .reading .lines ≤ linesMost
       → Leads said (line ∷ more) (traceEnding (orderIn said) (kindsIn said) [] (length said + 1) more) (runFrom (o .left) more)
   unfolding headerOf traceOf
   begins b g number few =
       let f = run-follows more (o .left) [] (g .trace) (g .history) (omega (arith, g .skipped)) few in
-      let same : traceEnding (o .left .reading .opened .order) (o .left .reading .kinds) [] (o .left .reading .lines) more ≡ traceEnding (orderIn said) (kindsIn said) [] (length said + 1) more =
-      ap₂ (λ (x : Order) (k : Kinds). traceEnding x k [] (o .left .reading .lines) more) (g .order) (g .kinds) ∙ ap (λ (n : ℕ). traceEnding (orderIn said) (kindsIn said) [] n more) number in
+      let n = o .left .reading .lines in
+      let here = traceEnding (orderIn said) (kindsIn said) [] (length said + 1) more in
+      let same : traceEnding (orderOn (o .left)) (kindsOn (o .left)) [] n more ≡ here =
+      ap₂ (λ (x : Order) (k : Kinds). traceEnding x k [] n more) (g .order) (g .kinds)
+      ∙ ap (λ (n : ℕ). traceEnding (orderIn said) (kindsIn said) [] n more) number in
       record {
         answer = f .answer ∙ ap (λ (e : Ending). e .answer) same;
         line = f .line ∙ ap (λ (e : Ending). e .line) same;
@@ -75,7 +78,11 @@ module _ (line : List ℕ) (more : List (List ℕ)) (said : List OrderLine) (o :
     line = f .line;
     end = λ z.
         let e = f .end z in
-        record { order = rw (b, ← append-assoc said (orderLineOf line ∷ []) (headerOf more)) (e .order); history = rw (b, ← append-assoc said (orderLineOf line ∷ []) (headerOf more)) (e .history); told = rw b (e .told) };
+        record {
+          order = rw (b, ← append-assoc said (orderLineOf line ∷ []) (headerOf more)) (e .order);
+          history = rw (b, ← append-assoc said (orderLineOf line ∷ []) (headerOf more)) (e .history);
+          told = rw b (e .told);
+        };
   }
 
 run-leads : (lines : List (List ℕ)) (d : Desk) (said : List OrderLine) → Heading (d .reading) said → d .reading .lines ≡ length said
@@ -84,7 +91,7 @@ unfolding runFrom inputEnding
 run-leads [] d said h counted =
     let few = few-said d said h in
     picked (λ (s : Step). Leads said [] (endsAt 10 (length said + 1)) (stays s d)) (inTrace (d .reading))
-    (λ e. let at = eqb-true (d .reading .stage) 8 e in absurd (omega (arith, h .stage)))
+    (λ e. let at = eqb-true (d .reading .stage) traceNext e in absurd (omega (arith, h .stage)))
     (λ e. record { answer = refl; line = omega arith; end = λ z. absurd (omega arith) })
 run-leads (line ∷ more) d said h counted =
     let o = stepOf d line in
@@ -92,10 +99,11 @@ run-leads (line ∷ more) d said h counted =
     let few = few-said d said h in
     let s = step-headed d line said h (omega arith) in
     let number = step-reported d line .number (omega arith) in
+    let then = inputEnding (worldOf d) (said ++ (l ∷ [])) more in
     let rest = run-leads more (o .left) (said ++ (l ∷ [])) in
     subst
     (λ (n : ℕ). Leads said (line ∷ more)
-    (cond (eqb n 0) (cond (isBegin l) (traceEnding (orderIn said) (kindsIn said) [] (length said + 1) more) (inputEnding (worldOf d) (said ++ (l ∷ [])) more)) (endsAt n (length said + 1)))
+    (cond (eqb n 0) (cond (isBegin l) (traceEnding (orderIn said) (kindsIn said) [] (length said + 1) more) then) (endsAt n (length said + 1)))
     (runFrom d (line ∷ more)))
     (s .answer)
     (both-picked (Leads said (line ∷ more)) (eqb (o .answer) 0)
@@ -105,7 +113,7 @@ run-leads (line ∷ more) d said h counted =
     (λ b. begins line more said o b (s .begun done b) (omega arith) (omega arith))
     (λ b.
     let g = s .going done b in
-    goes line more said (runFrom (o .left) more) b (inputEnding (worldOf d) (said ++ (l ∷ [])) more)
+    goes line more said (runFrom (o .left) more) b then
     (subst (λ (x : Ending). Leads (said ++ (l ∷ [])) more x (runFrom (o .left) more))
     (ap (λ (w : World). inputEnding w (said ++ (l ∷ [])) more) (g .1))
     (rest (g .0) (omega (arith, length-append said (l ∷ [])))))))
@@ -119,7 +127,8 @@ starts = record { stage = omega arith; six = refl; kinds = λ h. refl; reads = r
 -- of any run within the contracts
 module _ (st ct : List ℕ) (lines : List (List ℕ)) (o : Outcome) (run : Runs (desk start st ct) lines o) where
   leads : Leads [] lines (inputEnding (unopened st ct) [] lines) o
-  leads = subst (Leads [] lines (inputEnding (unopened st ct) [] lines)) (sym (run-determined run)) (run-leads lines (desk start st ct) [] starts refl)
+  leads =
+      subst (Leads [] lines (inputEnding (unopened st ct) [] lines)) (sym (run-determined run)) (run-leads lines (desk start st ct) [] starts refl)
 
   -- the answer, and the line that it is reported at, are those that the lines alone call for
   pub program-answer : o .answer ≡ inputEnding (unopened st ct) [] lines .answer
@@ -134,7 +143,8 @@ module _ (st ct : List ℕ) (lines : List (List ℕ)) (o : Outcome) (run : Runs 
     program-order = leads .end done .order
 
     -- the misses given for each cache of that order are those of that one cache over what the lines give
-    pub program-misses : (b s w : ℕ) → has (orderIn (headerOf lines)) b s w ≡ true → (q : Counted) → q ≡ missesOf (o .left .reading .opened) (o .left .counts) b s w
+    pub program-misses : (b s w : ℕ) → has (orderIn (headerOf lines)) b s w ≡ true
+        → (q : Counted) → q ≡ missesOf (o .left .reading .opened) (o .left .counts) b s w
         → (q .answer ≡ 0) × (q .misses ≡ missesOver b s w (givenOf lines))
     program-misses b s w h q e =
         misses-are (worldOf (o .left)) (givenOf lines) (leads .end done .history) b s w (subst (λ (x : Order). has x b s w ≡ true) (sym program-order) h) q e
@@ -143,5 +153,5 @@ module _ (st ct : List ℕ) (lines : List (List ℕ)) (o : Outcome) (run : Runs 
     pub program-refs : o .left .reading .opened .taken ≡ total referred (givenOf lines)
     program-refs = count-is (worldOf (o .left)) (givenOf lines) (leads .end done .history)
 
-    pub program-skipped : o .left .reading .opened .taken + o .left .reading .skipped ≡ length (traceOf lines)
+    pub program-skipped : o .left .reading .opened .taken + o .left .reading .tally .skipped ≡ length (traceOf lines)
     program-skipped = leads .end done .told

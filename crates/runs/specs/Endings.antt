@@ -1,4 +1,4 @@
--- Where the program's input ends, told from its lines alone: the cases of document 01, "Refusal numbers", with no state and no table's contents.
+-- Where the program's input ends, told from its lines alone: the cases of SCOPE, "Refusal numbers", with no state and no table's contents.
 -- Assumes nothing.
 use Prim.Native.Nat.{ℕ, _+_}
 use mathlib.Core.Bool.{Bool, false, cond, not, _&&_, _||_}
@@ -22,6 +22,7 @@ use Rattle.lines.specs.declared.TraceLine.{TraceLine}
 use Rattle.lines.specs.declared.TraceLine.the-variants.{Ref, Skipped, Refused as BadTrace}
 use Rattle.lines.specs.OrderLine.{orderLineOf, countsKind}
 use Rattle.lines.specs.TraceLine.{traceLineOf}
+use Rattle.reading.specs.Step.{linesMost}
 use Rattle.runs.specs.Input.{isBegin, orderIn, kindsIn, givenBy}
 
 -- the answer, and its line: that of the refusal, or the last where the answer is 0
@@ -32,9 +33,9 @@ pub record Ending : Type 0 where
 abbrev pub endsAt : ℕ → ℕ → Ending
 endsAt answer line = record { answer = answer; line = line }
 
--- the numbers of the program, and 0
+-- the numbers of the program, and 0: over its tables, 3 never comes
 abbrev pub listed : List ℕ
-listed = 0 ∷ 1 ∷ 2 ∷ 3 ∷ 5 ∷ 6 ∷ 10 ∷ 11 ∷ 26 ∷ []
+listed = 0 ∷ 1 ∷ 2 ∷ 5 ∷ 6 ∷ 10 ∷ 11 ∷ 26 ∷ []
 
 -- ---- in the trace
 
@@ -45,7 +46,10 @@ isFullAfter o past g b = ltb (o .room) (length (after stackStep [] (eventsOf b (
 -- one more after `past`: 5 where the references taken equal refs, 6 where at some block size the blocks seen would be more than room
 abbrev pub refAnswer : Order → List Given → Given → ℕ
 refAnswer o past g =
-    firstOf ((eqb (total referred past) (o .refs), refsReached) ∷ (anyTo (sizes o) (λ (k : ℕ). isFullAfter o past g (o .bmin .0 + k)), stackFull) ∷ [])
+    firstOf
+    ((eqb (total referred past) (o .refs), refsReached)
+    ∷ (anyTo (sizes o) (λ (k : ℕ). isFullAfter o past g (o .bmin .0 + k)), stackFull)
+    ∷ [])
 
 -- a line of the trace: only a reference of a kind that is counted is taken
 abbrev pub traceAnswer : Order → Kinds → List Given → TraceLine → ℕ
@@ -55,7 +59,7 @@ traceAnswer o kinds past (BadTrace n) = badTraceLine
 
 -- the line after n others: 26 is decided before it is read
 abbrev pub nextAnswer : Order → Kinds → List Given → ℕ → List ℕ → ℕ
-nextAnswer o kinds past n line = cond (leb 4294967295 n) tooManyLines (traceAnswer o kinds past (traceLineOf line))
+nextAnswer o kinds past n line = cond (leb linesMost n) tooManyLines (traceAnswer o kinds past (traceLineOf line))
 
 -- the lines that are left, after n lines of the input and the references `past`
 unfoldable pub traceEnding : Order → Kinds → List Given → ℕ → List (List ℕ) → Ending

@@ -1,9 +1,10 @@
--- The program's input (document 01, "Program, order lines and din lines"): a run over its lines, and what its lines say by themselves, whatever
+-- The program's input (SCOPE, "Program, order lines and din lines"): a run over its lines, and what its lines say by themselves, whatever
 -- the state. A line is given without its LF. Assumes nothing.
 use Prim.Native.Nat.{ℕ, _<_}
 use mathlib.Core.Path.{_≡_}
 use mathlib.Core.Bool.{Bool, true, false, cond}
 use mathlib.Core.List.{List, [], _∷_, _++_}
+use lib.Dec.{eqb}
 use lib.ListN.{length, getD}
 use Rattle.cache.specs.Cache.{Given, ref}
 use Rattle.order.specs.declared.Order.{Order}
@@ -18,7 +19,8 @@ use Rattle.lines.specs.OrderLine.{orderLineOf, countsKind}
 use Rattle.lines.specs.TraceLine.{traceLineOf}
 use Rattle.reading.specs.declared.Reading.{Reading}
 use Rattle.reading.specs.declared.Step.{Step}
-use Rattle.reading.specs.Reading.{Desk, Outcome, outcome, stays, longLine, ended, Steps}
+use Rattle.reading.specs.Reading.{Desk, Outcome, outcome, stays}
+use Rattle.reading.specs.Step.{stepOf, longLine, ended, Steps}
 
 -- ---- a run
 
@@ -26,9 +28,17 @@ use Rattle.reading.specs.Reading.{Desk, Outcome, outcome, stays, longLine, ende
 -- `ended`. A call is anything within its contract, and the first that is refused ends the run.
 pub data Runs : Desk → List (List ℕ) → Outcome → Type 0 where
   at-end : {d : Desk} {r : Step} → r ≡ ended (d .reading) → Runs d [] (stays r d)
-  done : {d d′ : Desk} {line : List ℕ} {more : List (List ℕ)} {n : ℕ} {o : Outcome} → Steps d line n d′ → n ≡ 0 → Runs d′ more o → Runs d (line ∷ more) o
-  refused : {d d′ : Desk} {line : List ℕ} {more : List (List ℕ)} {n : ℕ} → Steps d line n d′ → (n ≡ 0 → ⊥) → Runs d (line ∷ more) (outcome n d′)
-  too-long : {d : Desk} {line : List ℕ} {more : List (List ℕ)} {r : Step} → longest < length line → r ≡ longLine (d .reading) → Runs d (line ∷ more) (stays r d)
+  done : {d d′ : Desk} {line : List ℕ} {more : List (List ℕ)} {n : ℕ} {o : Outcome} → Steps d line n d′ → n ≡ 0
+      → Runs d′ more o → Runs d (line ∷ more) o
+  refused : {d d′ : Desk} {line : List ℕ} {more : List (List ℕ)} {n : ℕ} → Steps d line n d′ → (n ≡ 0 → ⊥)
+      → Runs d (line ∷ more) (outcome n d′)
+  too-long : {d : Desk} {line : List ℕ} {more : List (List ℕ)} {r : Step} → longest < length line → r ≡ longLine (d .reading)
+      → Runs d (line ∷ more) (stays r d)
+
+-- what it comes to: the run stops at the first line that is refused, else at the end
+unfoldable pub runFrom : Desk → List (List ℕ) → Outcome
+runFrom d [] = stays (ended (d .reading)) d
+runFrom d (line ∷ more) = cond (eqb (stepOf d line .answer) 0) (runFrom (stepOf d line .left) more) (stepOf d line)
 
 -- ---- the order's lines
 

@@ -1,11 +1,14 @@
 // Standard input, in chunks, cut into lines; and the run over all of them.
 use libc::STDIN_FILENO;
+use lines::LONGEST;
 use reading::Reading;
 use reading::Step;
 use units::refusal;
 ghost use mathlib.Core.Path.{_≡_};
 ghost use Prim.Native.Nat.{_≤_};
 ghost use lib.ListN.{length};
+ghost use Rattle.lines.specs.Bytes.{longest};
+ghost use Rattle.reading.specs.Tables.{stackEntries, countEntries};
 ghost use Rattle.sweep.specs.Lines.{Fits, Found, Kept};
 
 // The bytes of the chunk that are not taken yet: from `at` to `end`.
@@ -42,7 +45,7 @@ struct Turn {
 
 // Takes the next line into the line buffer, without its LF, which the last line may lack.
 fn next_line(input: Input, chunk: &mut [u8], line: &mut [u8]) -> Next
-    requires { ⌜ (length (now chunk) ≡ 65536) × (length (now line) ≡ 255) × Fits input ⌝ }
+    requires { ⌜ (length (now chunk) ≡ 65536) × (length (now line) ≡ longest) × Fits input ⌝ }
     ensures { λ r. ⌜ Found r ⌝ }
 {
     let mut at = input.at;
@@ -68,7 +71,7 @@ fn next_line(input: Input, chunk: &mut [u8], line: &mut [u8]) -> Next
         if byte == b'\n' {
             return Next::Line(len, Input { at, end });
         }
-        if len >= 255 {
+        if len >= LONGEST {
             return Next::Long;
         }
         line[len] = byte;
@@ -101,7 +104,7 @@ fn one_line(
     stacks: &mut [u32],
     counts: &mut [u32],
 ) -> Turn
-    requires { ⌜ (length (now chunk) ≡ 65536) × (length (now line) ≡ 255) × Fits input ⌝ }
+    requires { ⌜ (length (now chunk) ≡ 65536) × (length (now line) ≡ longest) × Fits input ⌝ }
     ensures { λ r. ⌜ Kept r ⌝ }
 {
     let found = next_line(input, chunk, line);
@@ -141,7 +144,10 @@ pub(crate) fn run(
     stacks: &mut [u32],
     counts: &mut [u32],
 ) -> Ended
-    requires { ⌜ (length (now chunk) ≡ 65536) × (length (now line) ≡ 255) ⌝ }
+    requires { ⌜
+        (length (now chunk) ≡ 65536) × (length (now line) ≡ longest)
+        × (length (now stacks) ≡ stackEntries) × (length (now counts) ≡ countEntries)
+        ⌝ }
 {
     let mut reading = Reading::start();
     let mut input = Input { at: 0, end: 0 };

@@ -3,18 +3,21 @@
 // only reading and printing.
 use input::run;
 use libc::STDERR_FILENO;
+use lines::LONGEST;
 use output::refused;
 use output::table;
+use reading::COUNT_ENTRIES;
+use reading::STACK_ENTRIES;
 
 mod input;
 mod output;
 
 fn main() {
-    let mut stacks = [0u32; 8192];
-    let mut counts = [0u32; 1920];
+    let mut stacks = [0u32; STACK_ENTRIES];
+    let mut counts = [0u32; COUNT_ENTRIES];
     let mut chunk = [0u8; 65536];
     // One line buffer, zero-filled at the start, serves order lines and trace lines.
-    let mut line = [0u8; 255];
+    let mut line = [0u8; LONGEST];
     let ended = run(&mut chunk, &mut line, &mut stacks, &mut counts);
     if ended.failed {
         io::write_all(

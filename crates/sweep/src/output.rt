@@ -94,7 +94,7 @@ pub(crate) fn table(reading: Reading, counts: &[u32]) -> bool {
     if !number_line(b"refs=", opened.taken as u64) {
         return false;
     }
-    if !number_line(b"skipped=", reading.skipped as u64) {
+    if !number_line(b"skipped=", reading.tally.skipped as u64) {
         return false;
     }
     let mut b = opened.order.bmin.0 as u64;

@@ -1,24 +1,15 @@
 -- `order_line` meets its contract: each case that fails takes the definition on to the next, and the first that fits decides.
 -- Assumes nothing.
 use Prim.Native.Nat.{ℕ}
-use mathlib.Core.Path.{_≡_, sym, _∙_}
+use mathlib.Core.Path.{_≡_, _∙_}
 use mathlib.Core.List.{List}
 use lib.ListN.{drop}
 use borrow.Author.Needs.{needs}
 use Rattle.units.specs.Refusals.{badOrderLine}
 use Rattle.lines.specs.OrderLine.{numberLines, wholeLines, numbered, whole, orderLineOf}
 use Rattle.lines.specs.declared.OrderLine.the-variants.{Refused}
-use Rattle.lines.proofs.OrderLaws.{
-  numbered-not,
-  numbered-is,
-  whole-not,
-  whole-is,
-  words,
-  no-number,
-  no-whole,
-  order-long,
-  order-short,
-}
+use Rattle.lines.proofs.OrderLaws.{numbered-not, numbered-is, whole-not, whole-is, words, no-number, no-whole, order-long, order-short}
+use Rattle.lines.proofs.SaidLaws.{order-says}
 use Rattle.lines.proofs.order_line.Statement.{statement}
 use Rattle.lines.proofs.order_line.Tie as tie
 
@@ -41,272 +32,163 @@ at-bmin c = at-start (c .before .before .before .before)
 
 past-bmin : (c : tie.After-enum-told) → PastNumbers 1 (at-bmin c)
 past-bmin c =
-    past-start (c .before .before .before .before)
-    ∙ numbered-not _ _ _ _ _ (c .before .before .number-after .ensures) (c .enum-told .given .1)
+    past-start (c .before .before .before .before) ∙ numbered-not _ _ _ _ _ (c .before .before .number-after .ensures) (c .enum-told .given .1)
 
 abbrev at-bmax : tie.After-enum-told2 → List ℕ
 at-bmax c = at-bmin (c .before .before .before .before)
 
 past-bmax : (c : tie.After-enum-told2) → PastNumbers 2 (at-bmax c)
 past-bmax c =
-    past-bmin (c .before .before .before .before)
-    ∙ numbered-not _ _ _ _ _ (c .before .before .number-after2 .ensures) (c .enum-told2 .given .1)
+    past-bmin (c .before .before .before .before) ∙ numbered-not _ _ _ _ _ (c .before .before .number-after2 .ensures) (c .enum-told2 .given .1)
 
 abbrev at-smax : tie.After-enum-told3 → List ℕ
 at-smax c = at-bmax (c .before .before .before .before)
 
 past-smax : (c : tie.After-enum-told3) → PastNumbers 3 (at-smax c)
 past-smax c =
-    past-bmax (c .before .before .before .before)
-    ∙ numbered-not _ _ _ _ _ (c .before .before .number-after3 .ensures) (c .enum-told3 .given .1)
+    past-bmax (c .before .before .before .before) ∙ numbered-not _ _ _ _ _ (c .before .before .number-after3 .ensures) (c .enum-told3 .given .1)
 
 abbrev at-ways : tie.After-enum-told4 → List ℕ
 at-ways c = at-smax (c .before .before .before .before)
 
 past-ways : (c : tie.After-enum-told4) → PastNumbers 4 (at-ways c)
 past-ways c =
-    past-smax (c .before .before .before .before)
-    ∙ numbered-not _ _ _ _ _ (c .before .before .number-after4 .ensures) (c .enum-told4 .given .1)
+    past-smax (c .before .before .before .before) ∙ numbered-not _ _ _ _ _ (c .before .before .number-after4 .ensures) (c .enum-told4 .given .1)
 
 abbrev at-room : tie.After-enum-told5 → List ℕ
 at-room c = at-ways (c .before .before .before .before)
 
 past-room : (c : tie.After-enum-told5) → PastNumbers 5 (at-room c)
 past-room c =
-    past-ways (c .before .before .before .before)
-    ∙ numbered-not _ _ _ _ _ (c .before .before .number-after5 .ensures) (c .enum-told5 .given .1)
+    past-ways (c .before .before .before .before) ∙ numbered-not _ _ _ _ _ (c .before .before .number-after5 .ensures) (c .enum-told5 .given .1)
 
 abbrev at-refs : tie.After-enum-told6 → List ℕ
 at-refs c = at-room (c .before .before .before .before)
 
 past-refs : (c : tie.After-enum-told6) → PastNumbers 6 (at-refs c)
 past-refs c =
-    past-room (c .before .before .before .before)
-    ∙ numbered-not _ _ _ _ _ (c .before .before .number-after6 .ensures) (c .enum-told6 .given .1)
+    past-room (c .before .before .before .before) ∙ numbered-not _ _ _ _ _ (c .before .before .number-after6 .ensures) (c .enum-told6 .given .1)
 
 abbrev at-all : tie.Else2 → List ℕ
 at-all c = at-refs (c .before .before .before)
 
 past-all : (c : tie.Else2) → PastWholes 1 (at-all c)
 past-all c =
-    past-refs (c .before .before .before) ∙ no-number _ _
-    ∙ whole-not _ _ _ _ _ (c .before .is-whole .ensures) (c .if2 .left)
+    past-refs (c .before .before .before) ∙ no-number _ _ ∙ whole-not _ _ _ _ _ (c .before .is-whole .ensures) (c .if2 .left)
 
 abbrev at-fetch : tie.Else3 → List ℕ
 at-fetch c = at-all (c .before .before .before)
 
 past-fetch : (c : tie.Else3) → PastWholes 2 (at-fetch c)
 past-fetch c =
-    past-all (c .before .before .before)
-    ∙ whole-not _ _ _ _ _ (c .before .is-whole2 .ensures) (c .if3 .left)
+    past-all (c .before .before .before) ∙ whole-not _ _ _ _ _ (c .before .is-whole2 .ensures) (c .if3 .left)
 
 abbrev at-data : tie.Else4 → List ℕ
 at-data c = at-fetch (c .before .before .before)
 
 past-data : (c : tie.Else4) → PastWholes 3 (at-data c)
 past-data c =
-    past-fetch (c .before .before .before)
-    ∙ whole-not _ _ _ _ _ (c .before .is-whole3 .ensures) (c .if4 .left)
+    past-fetch (c .before .before .before) ∙ whole-not _ _ _ _ _ (c .before .is-whole3 .ensures) (c .if4 .left)
 
 returns : tie.Need-returns
-returns c = sym (order-long _ (c .if1 .taken))
-
-slice-aggregate-number-after : tie.Need-slice-aggregate-number-after
-slice-aggregate-number-after c = search needs
-
-number-after-requires : tie.Need-number-after-requires
-number-after-requires c κs = search needs
-
-enum-known-n : tie.Need-enum-known-n
-enum-known-n c = search needs
+returns c = order-says (order-long _ (c .if1 .taken))
 
 returns-2 : tie.Need-returns-2
 returns-2 c =
-    sym (past-start (c .before .before .before .before .before)
+    order-says (past-start (c .before .before .before .before .before)
     ∙ numbered-is _ _ _ _ _ (c .before .before .before .number-after .ensures) _ (c .before .n .given .1))
-
-enum-told : tie.Need-enum-told
-enum-told c = search needs
-
-slice-aggregate-number-after-2 : tie.Need-slice-aggregate-number-after-2
-slice-aggregate-number-after-2 c = search needs
-
-number-after-requires-2 : tie.Need-number-after-requires-2
-number-after-requires-2 c κs = search needs
-
-enum-known-n-2 : tie.Need-enum-known-n-2
-enum-known-n-2 c = search needs
 
 returns-3 : tie.Need-returns-3
 returns-3 c =
-    sym (past-bmin (c .before .before .before .before .before)
+    order-says (past-bmin (c .before .before .before .before .before)
     ∙ numbered-is _ _ _ _ _ (c .before .before .before .number-after2 .ensures) _ (c .before .n2 .given .1))
-
-enum-told-2 : tie.Need-enum-told-2
-enum-told-2 c = search needs
-
-slice-aggregate-number-after-3 : tie.Need-slice-aggregate-number-after-3
-slice-aggregate-number-after-3 c = search needs
-
-number-after-requires-3 : tie.Need-number-after-requires-3
-number-after-requires-3 c κs = search needs
-
-enum-known-n-3 : tie.Need-enum-known-n-3
-enum-known-n-3 c = search needs
 
 returns-4 : tie.Need-returns-4
 returns-4 c =
-    sym (past-bmax (c .before .before .before .before .before)
+    order-says (past-bmax (c .before .before .before .before .before)
     ∙ numbered-is _ _ _ _ _ (c .before .before .before .number-after3 .ensures) _ (c .before .n3 .given .1))
-
-enum-told-3 : tie.Need-enum-told-3
-enum-told-3 c = search needs
-
-slice-aggregate-number-after-4 : tie.Need-slice-aggregate-number-after-4
-slice-aggregate-number-after-4 c = search needs
-
-number-after-requires-4 : tie.Need-number-after-requires-4
-number-after-requires-4 c κs = search needs
-
-enum-known-n-4 : tie.Need-enum-known-n-4
-enum-known-n-4 c = search needs
 
 returns-5 : tie.Need-returns-5
 returns-5 c =
-    sym (past-smax (c .before .before .before .before .before)
+    order-says (past-smax (c .before .before .before .before .before)
     ∙ numbered-is _ _ _ _ _ (c .before .before .before .number-after4 .ensures) _ (c .before .n4 .given .1))
-
-enum-told-4 : tie.Need-enum-told-4
-enum-told-4 c = search needs
-
-slice-aggregate-number-after-5 : tie.Need-slice-aggregate-number-after-5
-slice-aggregate-number-after-5 c = search needs
-
-number-after-requires-5 : tie.Need-number-after-requires-5
-number-after-requires-5 c κs = search needs
-
-enum-known-n-5 : tie.Need-enum-known-n-5
-enum-known-n-5 c = search needs
 
 returns-6 : tie.Need-returns-6
 returns-6 c =
-    sym (past-ways (c .before .before .before .before .before)
+    order-says (past-ways (c .before .before .before .before .before)
     ∙ numbered-is _ _ _ _ _ (c .before .before .before .number-after5 .ensures) _ (c .before .n5 .given .1))
-
-enum-told-5 : tie.Need-enum-told-5
-enum-told-5 c = search needs
-
-slice-aggregate-number-after-6 : tie.Need-slice-aggregate-number-after-6
-slice-aggregate-number-after-6 c = search needs
-
-number-after-requires-6 : tie.Need-number-after-requires-6
-number-after-requires-6 c κs = search needs
-
-enum-known-n-6 : tie.Need-enum-known-n-6
-enum-known-n-6 c = search needs
 
 returns-7 : tie.Need-returns-7
 returns-7 c =
-    sym (past-room (c .before .before .before .before .before)
+    order-says (past-room (c .before .before .before .before .before)
     ∙ numbered-is _ _ _ _ _ (c .before .before .before .number-after6 .ensures) _ (c .before .n6 .given .1))
-
-enum-told-6 : tie.Need-enum-told-6
-enum-told-6 c = search needs
-
-slice-aggregate-is-whole : tie.Need-slice-aggregate-is-whole
-slice-aggregate-is-whole c = search needs
-
-is-whole-requires : tie.Need-is-whole-requires
-is-whole-requires c κs = search needs
 
 returns-8 : tie.Need-returns-8
 returns-8 c =
-    sym (past-refs (c .before .before .before) ∙ no-number _ _
-    ∙ whole-is _ _ _ _ _ (c .before .is-whole .ensures) (c .if2 .taken))
-
-slice-aggregate-is-whole-2 : tie.Need-slice-aggregate-is-whole-2
-slice-aggregate-is-whole-2 c = search needs
-
-is-whole-requires-2 : tie.Need-is-whole-requires-2
-is-whole-requires-2 c κs = search needs
+    order-says (past-refs (c .before .before .before) ∙ no-number _ _ ∙ whole-is _ _ _ _ _ (c .before .is-whole .ensures) (c .if2 .taken))
 
 returns-9 : tie.Need-returns-9
 returns-9 c =
-    sym (past-all (c .before .before .before)
-    ∙ whole-is _ _ _ _ _ (c .before .is-whole2 .ensures) (c .if3 .taken))
-
-slice-aggregate-is-whole-3 : tie.Need-slice-aggregate-is-whole-3
-slice-aggregate-is-whole-3 c = search needs
-
-is-whole-requires-3 : tie.Need-is-whole-requires-3
-is-whole-requires-3 c κs = search needs
+    order-says (past-all (c .before .before .before) ∙ whole-is _ _ _ _ _ (c .before .is-whole2 .ensures) (c .if3 .taken))
 
 returns-10 : tie.Need-returns-10
 returns-10 c =
-    sym (past-fetch (c .before .before .before)
-    ∙ whole-is _ _ _ _ _ (c .before .is-whole3 .ensures) (c .if4 .taken))
-
-slice-aggregate-is-whole-4 : tie.Need-slice-aggregate-is-whole-4
-slice-aggregate-is-whole-4 c = search needs
-
-is-whole-requires-4 : tie.Need-is-whole-requires-4
-is-whole-requires-4 c κs = search needs
+    order-says (past-fetch (c .before .before .before) ∙ whole-is _ _ _ _ _ (c .before .is-whole3 .ensures) (c .if4 .taken))
 
 returns-11 : tie.Need-returns-11
 returns-11 c =
-    sym (past-data (c .before .before .before)
-    ∙ whole-is _ _ _ _ _ (c .before .is-whole4 .ensures) (c .if5 .taken))
+    order-says (past-data (c .before .before .before) ∙ whole-is _ _ _ _ _ (c .before .is-whole4 .ensures) (c .if5 .taken))
 
 returns-12 : tie.Need-returns-12
 returns-12 c =
-    sym (past-data (c .before .before .before)
-    ∙ whole-not _ _ _ _ _ (c .before .is-whole4 .ensures) (c .if5 .left) ∙ no-whole _ _)
+    order-says (past-data (c .before .before .before) ∙ whole-not _ _ _ _ _ (c .before .is-whole4 .ensures) (c .if5 .left) ∙ no-whole _ _)
 
+-- closed by search
 pub order-line-spec : {M : Type 1} → statement M
 order-line-spec =
     tie.close
     (tie.spec
     returns
-    slice-aggregate-number-after
-    number-after-requires
-    enum-known-n
+    (λ c. search needs)
+    (λ c κs. search needs)
+    (λ c. search needs)
     returns-2
-    enum-told
-    slice-aggregate-number-after-2
-    number-after-requires-2
-    enum-known-n-2
+    (λ c. search needs)
+    (λ c. search needs)
+    (λ c κs. search needs)
+    (λ c. search needs)
     returns-3
-    enum-told-2
-    slice-aggregate-number-after-3
-    number-after-requires-3
-    enum-known-n-3
+    (λ c. search needs)
+    (λ c. search needs)
+    (λ c κs. search needs)
+    (λ c. search needs)
     returns-4
-    enum-told-3
-    slice-aggregate-number-after-4
-    number-after-requires-4
-    enum-known-n-4
+    (λ c. search needs)
+    (λ c. search needs)
+    (λ c κs. search needs)
+    (λ c. search needs)
     returns-5
-    enum-told-4
-    slice-aggregate-number-after-5
-    number-after-requires-5
-    enum-known-n-5
+    (λ c. search needs)
+    (λ c. search needs)
+    (λ c κs. search needs)
+    (λ c. search needs)
     returns-6
-    enum-told-5
-    slice-aggregate-number-after-6
-    number-after-requires-6
-    enum-known-n-6
+    (λ c. search needs)
+    (λ c. search needs)
+    (λ c κs. search needs)
+    (λ c. search needs)
     returns-7
-    enum-told-6
-    slice-aggregate-is-whole
-    is-whole-requires
+    (λ c. search needs)
+    (λ c. search needs)
+    (λ c κs. search needs)
     returns-8
-    slice-aggregate-is-whole-2
-    is-whole-requires-2
+    (λ c. search needs)
+    (λ c κs. search needs)
     returns-9
-    slice-aggregate-is-whole-3
-    is-whole-requires-3
+    (λ c. search needs)
+    (λ c κs. search needs)
     returns-10
-    slice-aggregate-is-whole-4
-    is-whole-requires-4
+    (λ c. search needs)
+    (λ c κs. search needs)
     returns-11
     returns-12)

@@ -23,6 +23,7 @@ use Rattle.lines.proofs.TraceLaws.{
   address-blank,
   address-wrong,
 }
+use Rattle.lines.proofs.SaidLaws.{trace-says}
 use Rattle.lines.proofs.trace_line.Statement.{statement}
 use Rattle.lines.proofs.trace_line.Tie as tie
 
@@ -53,87 +54,70 @@ before-end : (c : tie.Else7) → c .before .hex-digits .result .end < length (re
 before-end c = lt-of-le-ne (c .before .hex-digits .ensures .within) (c .if7 .left)
 
 returns : tie.Need-returns
-returns c = sym (too-long _ (c .if1 .taken))
+returns c = trace-says (too-long _ (c .if1 .taken))
 
 returns-2 : tie.Need-returns-2
-returns-2 c = sym (line-empty _ (c .before .if1 .left) (c .if2 .taken))
-
-shared-slice-read-label : tie.Need-shared-slice-read-label
-shared-slice-read-label c = search needs
+returns-2 c = trace-says (line-empty _ (c .before .if1 .left) (c .if2 .taken))
 
 returns-3 : tie.Need-returns-3
-returns-3 c = sym (line-label-wrong _ (omega arith) (omega arith) (range-below 48 52 _ (c .if3 .taken)))
+returns-3 c = trace-says (line-label-wrong _ (omega arith) (omega arith) (range-below 48 52 _ (c .if3 .taken)))
 
 returns-4 : tie.Need-returns-4
-returns-4 c = sym (line-label-wrong _ (omega arith) (omega arith) (range-above 48 52 _ (c .if4 .taken)))
-
-gap-end-requires : tie.Need-gap-end-requires
-gap-end-requires c κs = search needs
+returns-4 c = trace-says (line-label-wrong _ (omega arith) (omega arith) (range-above 48 52 _ (c .if4 .taken)))
 
 returns-5 : tie.Need-returns-5
 returns-5 c =
     let right = label-is-right (c .before .before) in
-    sym (line-no-gap (bytes (c .before .before)) (omega arith) (omega arith) right _ (c .before .gap-end .ensures) (c .if5 .taken))
+    trace-says (line-no-gap (bytes (c .before .before)) (omega arith) (omega arith) right _ (c .before .gap-end .ensures) (c .if5 .taken))
 
 returns-6 : tie.Need-returns-6
 returns-6 c =
     let labelled = c .before .before .before in
     let right = label-is-right labelled in
     let at = c .before .before .gap-end .ensures in
-    sym (line-no-address (bytes labelled) (omega arith) (omega arith) right _ at (c .before .if5 .left) (c .if6 .taken))
+    trace-says (line-no-address (bytes labelled) (omega arith) (omega arith) right _ at (c .before .if5 .left) (c .if6 .taken))
 
 hex-digits-requires : tie.Need-hex-digits-requires
 hex-digits-requires c κs =
     let labelled = c .before .before .before in
     start-within (bytes labelled) (omega arith) (omega arith) (label-is-right labelled) _ (c .before .before .gap-end .ensures)
 
-labelled-requires : tie.Need-labelled-requires
-labelled-requires c κs = search needs
-
 returns-7 : tie.Need-returns-7
 returns-7 c =
     let digits = c .before .before in
-    c .labelled .ensures ∙ sym (goes-on digits ∙ address-end _ _ _ (read digits) _ (c .before .if7 .taken))
-
-shared-slice-read-is-blank : tie.Need-shared-slice-read-is-blank
-shared-slice-read-is-blank c = search needs
-
-is-blank-requires : tie.Need-is-blank-requires
-is-blank-requires c κs = search needs
-
-labelled-requires-2 : tie.Need-labelled-requires-2
-labelled-requires-2 c κs = search needs
+    trace-says (goes-on digits ∙ address-end _ _ _ (read digits) _ (c .before .if7 .taken) ∙ sym (c .labelled .ensures))
 
 returns-8 : tie.Need-returns-8
 returns-8 c =
     let rest = c .before .before .before .before in
     let blank = sym (c .before .before .is-blank .ensures) ∙ c .before .if8 .taken in
-    c .labelled2 .ensures ∙ sym (goes-on (rest .before) ∙ address-blank _ _ _ (read (rest .before)) _ (before-end rest) blank)
+    trace-says (goes-on (rest .before) ∙ address-blank _ _ _ (read (rest .before)) _ (before-end rest) blank ∙ sym (c .labelled2 .ensures))
 
 returns-9 : tie.Need-returns-9
 returns-9 c =
     let rest = c .before .before .before in
     let other = sym (c .before .is-blank .ensures) ∙ c .if8 .left in
     let ended = rest .before .hex-digits .ensures .ended (before-end rest) in
-    sym (goes-on (rest .before) ∙ address-wrong _ _ _ (read (rest .before)) _ (before-end rest) other ended)
+    trace-says (goes-on (rest .before) ∙ address-wrong _ _ _ (read (rest .before)) _ (before-end rest) other ended)
 
+-- closed by search
 pub trace-line-spec : {M : Type 1} → statement M
 trace-line-spec =
     tie.close
     (tie.spec
     returns
     returns-2
-    shared-slice-read-label
+    (λ c. search needs)
     returns-3
     returns-4
-    gap-end-requires
+    (λ c κs. search needs)
     returns-5
     returns-6
     hex-digits-requires
-    labelled-requires
+    (λ c κs. search needs)
     returns-7
-    shared-slice-read-is-blank
-    is-blank-requires
-    labelled-requires-2
+    (λ c. search needs)
+    (λ c κs. search needs)
+    (λ c κs. search needs)
     returns-8
     returns-9)

@@ -1,20 +1,18 @@
 -- `ended` meets its contract: the stage decides. Assumes nothing.
-use mathlib.Core.Path.{_≡_, ap}
+use mathlib.Core.Path.{ap}
 use borrow.Author.Tests.{eq-eqb, ne-eqb}
-use borrow.Author.Needs.{needs}
 use Rattle.units.specs.Refusals.{badOrderLine}
-use Rattle.reading.specs.Reading.{answered}
+use Rattle.reading.specs.Reading.{traceNext, answered}
+use borrow.Author.Needs.{needs}
 use Rattle.reading.proofs.Reading.ended.Statement.{statement}
 use Rattle.reading.proofs.Reading.ended.Tie as tie
 
 returns : tie.Need-returns
-returns c = let v = c .before .args .self in simp (eq-eqb (v .stage) 8 (c .if1 .taken))
-
-counted-requires : tie.Need-counted-requires
-counted-requires c κs = search needs
+returns c = simp (eq-eqb (c .before .args .self .stage) traceNext (c .if1 .taken))
 
 returns-2 : tie.Need-returns-2
-returns-2 c = let v = c .before .before .args .self in simp (ne-eqb (v .stage) 8 (c .before .if1 .left)) (ap (answered badOrderLine) (c .counted .ensures))
+returns-2 c = simp (ne-eqb (c .before .before .args .self .stage) traceNext (c .before .if1 .left)) (ap (answered badOrderLine) (c .counted .ensures))
 
+-- closed by search
 pub ended-spec : {M : Type 1} → statement M
-ended-spec = tie.close (tie.spec returns counted-requires returns-2)
+ended-spec = tie.close (tie.spec returns (λ c κs. search needs) returns-2)
