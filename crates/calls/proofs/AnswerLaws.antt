@@ -4,28 +4,24 @@ use Prim.Native.Nat.{ℕ, zero, suc, _+_, _-_, _*_, _≤_, _<_}
 use mathlib.Core.Path.{_≡_, refl, sym, ap, ap₂, _∙_}
 use mathlib.Core.Bool.{Bool, true, false, cond, not, _||_, or-false}
 use mathlib.Core.List.{List, [], _∷_, _++_}
-use native.Mathlib.Nat.{zero-add, add-mul, mul-assoc}
+use native.Mathlib.Nat.{zero-add}
 use native.Mathlib.Omega.{arith}
 use lib.Dec.{eqb, ltb}
-use lib.ListN.{length, getD}
+use lib.ListN.{length}
 use borrow.Author.Tests.{le-ltb, lt-ltb, ltb-true}
 use Rattle.lists.specs.Runs.{after, anyOn}
-use Rattle.lists.specs.Sums.{total, sumTo}
-use Rattle.lists.specs.Tables.{part}
+use Rattle.lists.specs.Sums.{total}
 use Rattle.lists.specs.Tests.{All≤, anyTo}
-use Rattle.lists.proofs.PartLaws.{part-at}
-use Rattle.lists.proofs.RaiseLaws.{cell-in}
 use Rattle.lists.proofs.RunLaws.{never-on}
-use Rattle.lists.proofs.SumLaws.{sumTo-same, total-append}
+use Rattle.lists.proofs.SumLaws.{total-append}
 use Rattle.lists.proofs.TestLaws.{all-yes, all-facts, any-same, any-none-of, any-first}
 use Rattle.cache.specs.Cache.{blockOf, Event, touch, touched, Given, ref, referred, eventsAt, eventsOf, missesOver}
 use Rattle.cache.specs.Stack.{stackStep}
 use Rattle.cache.proofs.SizeLaws.{no-longer}
 use Rattle.order.specs.declared.Order.{Order}
-use Rattle.order.specs.Limits.{limits, within, sizes, rows, span, stackNeed, countNeed}
+use Rattle.order.specs.Limits.{limits, sizes, rows, countNeed}
 use Rattle.sizes.specs.Size.{Size, emptySize, sizeStep, isFull, isOver, hitsIn}
 use Rattle.sizes.proofs.SizeLaws.{sizeOver, total-after, stack-after, never-over, size-misses, size-hits}
-use Rattle.taking.specs.Places.{usedOf, cell}
 use Rattle.taking.specs.Parts.{Fit}
 use Rattle.taking.proofs.NeedLaws.{own-of, answer-by-sizes}
 use Rattle.taking.specs.World.{World, sizeAt}

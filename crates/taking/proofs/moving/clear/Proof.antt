@@ -1,9 +1,9 @@
 -- `clear` meets its contract: the first i entries are zero, and the others as they were. Assumes nothing.
 use Prim.Native.Nat.{_≤_, _-_}
-use mathlib.Core.Path.{_≡_, refl, sym, ap, _∙_}
+use mathlib.Core.Path.{_≡_, ap, _∙_}
 use native.Mathlib.Omega.{arith}
 use lib.ListN.{length, set, length-set}
-use borrow.Author.Fill.{fill-none, fill-more}
+use borrow.Author.Fill.{fill-more}
 use Rattle.lists.specs.Tables.{zeroed}
 use borrow.Author.Needs.{needs}
 use Rattle.taking.proofs.moving.clear.Statement.{statement}
