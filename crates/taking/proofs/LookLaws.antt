@@ -54,7 +54,8 @@ pub record Left (v : Opened) (st : List ℕ) (x : ℕ → ℕ) (k i : ℕ) (ds :
 
 pub length-stack : (v : Opened) (st : List ℕ) (m k : ℕ) → Fit v (length st) m → k < sizes (v .order) → length (stackAt v st k) ≡ usedOf v k
 length-stack v st m k f h =
-    length-take-le (usedOf v k) (drop (k * v .order .room) st) (rw (length-drop (k * v .order .room) st) (omega (arith, stack-fits v (length st) m k f h, f .used k h)))
+    length-take-le (usedOf v k) (drop (k * v .order .room) st)
+    (rw (length-drop (k * v .order .room) st) (omega (arith, stack-fits v (length st) m k f h, f .used k h)))
 
 pub read-stack : (v : Opened) (st : List ℕ) (k i : ℕ) → i < usedOf v k → getD (stackAt v st k) i 0 ≡ getD st (k * v .order .room + i) 0
 read-stack v st k i h = getD-take (usedOf v k) (drop (k * v .order .room) st) i 0 h ∙ getD-drop (k * v .order .room) st i 0
@@ -108,7 +109,8 @@ module _ (v : Opened) (st : List ℕ) (x : ℕ → ℕ) (m k : ℕ) (f : Fit v (
         }
 
     pub walk-on : (ds′ : List ℕ) → i < usedOf v k → (getD st (k * v .order .room + i) 0 ≡ x k → ⊥) → length ds′ ≡ length ds
-        → Bumped (k * 15) (rows (v .order)) (trailingZeros 32 (bitXor (x k) (getD st (k * v .order .room + i) 0))) ds ds′ → Walking v st x k (i + 1) ds′
+        → Bumped (k * 15) (rows (v .order)) (trailingZeros 32 (bitXor (x k) (getD st (k * v .order .room + i) 0))) ds ds′ → Walking v st x k
+        (i + 1) ds′
     walk-on ds′ g ne same b = record {
       inside = omega arith;
       long = same ∙ w .long;
@@ -127,13 +129,19 @@ module _ (v : Opened) (st : List ℕ) (x : ℕ → ℕ) (m k : ℕ) (f : Fit v (
         inside : i < length (stackAt v st k)
         inside = omega (arith, length-stack v st m k f h)
 
-        counted : (s : ℕ) → s < rows (v .order) → getD ds′ (k * 15 + s) 0 ≡ length (keep (λ y. eqb (setOf s (x k)) (setOf s y)) (take (i + 1) (stackAt v st k)))
+        counted : (s : ℕ) → s < rows (v .order)
+            → getD ds′ (k * 15 + s) 0 ≡ length (keep (λ y. eqb (setOf s (x k)) (setOf s y)) (take (i + 1) (stackAt v st k)))
         counted s q =
             let law = shared s 32 (x k) y (omega (arith, f .numbers, f .ceiling)) in
-            let one = count-suc (λ z. eqb (setOf s (x k)) (setOf s z)) i (stackAt v st k) inside ∙ ap (λ (n : ℕ). cond (eqb (setOf s (x k)) (setOf s n)) (suc (length (keep (λ z. eqb (setOf s (x k)) (setOf s z)) (take i (stackAt v st k))))) (length (keep (λ z. eqb (setOf s (x k)) (setOf s z)) (take i (stackAt v st k))))) here in
+            let one =
+            count-suc (λ z. eqb (setOf s (x k)) (setOf s z)) i (stackAt v st k) inside
+            ∙ ap (λ (n : ℕ). cond (eqb (setOf s (x k)) (setOf s n))
+            (suc (length (keep (λ z. eqb (setOf s (x k)) (setOf s z)) (take i (stackAt v st k)))))
+            (length (keep (λ z. eqb (setOf s (x k)) (setOf s z)) (take i (stackAt v st k))))) here in
             rw (add-one i)
             (cases (leb s (trailingZeros 32 (bitXor (x k) y)))
-            (λ e. b .more s q (leb-true s (trailingZeros 32 (bitXor (x k) y)) e) ∙ ap (λ (n : ℕ). n + 1) (w .counted s q) ∙ add-one _ ∙ sym (one ∙ simp (sym law ∙ e)))
+            (λ e. b .more s q (leb-true s (trailingZeros 32 (bitXor (x k) y)) e) ∙ ap (λ (n : ℕ). n + 1) (w .counted s q) ∙ add-one _
+            ∙ sym (one ∙ simp (sym law ∙ e)))
             (λ e. b .less s q (leb-false s (trailingZeros 32 (bitXor (x k) y)) e) ∙ w .counted s q ∙ sym (one ∙ simp (sym law ∙ e))))
 
   pub size-done : (i : ℕ) (ps ds₀ ds : List ℕ) → Sizes v st x k ps ds₀ → Left v st x k i ds → Sizes v st x (k + 1) (set ps k i) ds

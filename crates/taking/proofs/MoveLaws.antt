@@ -30,9 +30,12 @@ pub shift-more : (i p : ℕ) (l m : List ℕ) → m ≡ shifted i p l → 0 < i 
 shift-more zero p l m e h f g = absurd (omega arith)
 shift-more (suc i) p l m e h f g =
     rw (sub-one (suc i))
-    (ap (λ (q : List ℕ). set q (suc i) (getD q i 0)) (e ∙ ap (λ (t : List ℕ). t ++ (slice (suc i) p l ++ drop (suc p) l)) (take-suc l (suc i) 0 (omega arith)) ∙ append-snoc (take (suc i) l) (getD l (suc i) 0) (slice (suc i) p l ++ drop (suc p) l))
+    (ap (λ (q : List ℕ). set q (suc i) (getD q i 0))
+    (e ∙ ap (λ (t : List ℕ). t ++ (slice (suc i) p l ++ drop (suc p) l)) (take-suc l (suc i) 0 (omega arith))
+    ∙ append-snoc (take (suc i) l) (getD l (suc i) 0) (slice (suc i) p l ++ drop (suc p) l))
     ∙ ap (λ (v : ℕ). set (take (suc i) l ++ getD l (suc i) 0 ∷ (slice (suc i) p l ++ drop (suc p) l)) (suc i) v)
-    (List·getD-append (take (suc i) l) (getD l (suc i) 0 ∷ (slice (suc i) p l ++ drop (suc p) l)) 0 i (rw (length-take-le (suc i) l (omega arith)) (omega arith))
+    (List·getD-append (take (suc i) l) (getD l (suc i) 0 ∷ (slice (suc i) p l ++ drop (suc p) l)) 0 i
+    (rw (length-take-le (suc i) l (omega arith)) (omega arith))
     ∙ getD-take (suc i) l i 0 (omega arith))
     ∙ set-at (take (suc i) l) (getD l (suc i) 0) (slice (suc i) p l ++ drop (suc p) l) (getD l i 0) (suc i) (length-take-le (suc i) l (omega arith))
     ∙ ap (λ (t : List ℕ). take (suc i) l ++ (t ++ drop (suc p) l)) (sym (slice-cons i p l 0 (omega arith) (omega arith))))
@@ -80,10 +83,14 @@ module _ (base used x : ℕ) (l : List ℕ) (inside : base + used ≤ length l) 
 
   -- found: the part of `used` entries
   pub put-old : p < used
-      → (take base l ++ (front x p (take (base + used - base) (drop base l)) ++ drop (base + used - base) (drop base l)) ≡ writeAt base (x ∷ remove x (part base used l)) l)
+      → (take base l ++ (front x p (take (base + used - base) (drop base l)) ++ drop (base + used - base) (drop base l)) ≡ writeAt base
+      (x ∷ remove x (part base used l)) l)
       × (used ≡ length (x ∷ remove x (part base used l)))
-  put-old h =
-      (rw cut (ap (λ (t : List ℕ). take base l ++ (t ++ drop used (drop base l))) fronted ∙ put-writes base used (x ∷ remove x (part base used l)) l long), sym long)
+  put-old h = (
+    rw cut (ap (λ (t : List ℕ). take base l ++ (t ++ drop used (drop base l))) fronted
+        ∙ put-writes base used (x ∷ remove x (part base used l)) l long),
+    sym long,
+  )
     where
       cut : base + used - base ≡ used
       cut = omega arith
@@ -92,14 +99,21 @@ module _ (base used x : ℕ) (l : List ℕ) (inside : base + used ≤ length l) 
       fronted = ap (λ (q : ℕ). front x q (part base used l)) left ∙ front-old x (part base used l) (rw (part-long, ← left) h)
 
       long : length (x ∷ remove x (part base used l)) ≡ used
-      long = length-front x (part base used l) ∙ simp (mem-above x (part base used l) ∙ lt-ltb (length (above x (part base used l))) (length (part base used l)) (rw (part-long, ← left) h)) part-long
+      long =
+          length-front x (part base used l) ∙ simp
+          (mem-above x (part base used l) ∙ lt-ltb (length (above x (part base used l))) (length (part base used l))
+          (rw (part-long, ← left) h)) part-long
 
   -- new: the part of one entry more
   pub put-new : used ≤ p → base + used < length l
-      → (take base l ++ (front x p (take (base + used + 1 - base) (drop base l)) ++ drop (base + used + 1 - base) (drop base l)) ≡ writeAt base (x ∷ remove x (part base used l)) l)
+      → (take base l ++ (front x p (take (base + used + 1 - base) (drop base l)) ++ drop (base + used + 1 - base) (drop base l)) ≡ writeAt base
+      (x ∷ remove x (part base used l)) l)
       × (used + 1 ≡ length (x ∷ remove x (part base used l)))
-  put-new h f =
-      (rw cut (ap (λ (t : List ℕ). take base l ++ (t ++ drop (used + 1) (drop base l))) fronted ∙ put-writes base (used + 1) (x ∷ remove x (part base used l)) l long), sym long)
+  put-new h f = (
+    rw cut (ap (λ (t : List ℕ). take base l ++ (t ++ drop (used + 1) (drop base l))) fronted
+        ∙ put-writes base (used + 1) (x ∷ remove x (part base used l)) l long),
+    sym long,
+  )
     where
       cut : base + used + 1 - base ≡ used + 1
       cut = omega arith
@@ -108,7 +122,8 @@ module _ (base used x : ℕ) (l : List ℕ) (inside : base + used ≤ length l) 
       last = omega (arith, above-le x (part base used l), part-long, left)
 
       absent : mem x (part base used l) ≡ false
-      absent = mem-above x (part base used l) ∙ le-ltb (length (above x (part base used l))) (length (part base used l)) (omega (arith, part-long, left))
+      absent =
+          mem-above x (part base used l) ∙ le-ltb (length (above x (part base used l))) (length (part base used l)) (omega (arith, part-long, left))
 
       tail : drop (used + 1) (take (used + 1) (drop base l)) ≡ []
       tail = drop-of-length-le (take (used + 1) (drop base l)) {i = used + 1} (rw (length-take (used + 1) (drop base l)) (omega arith))
@@ -117,7 +132,8 @@ module _ (base used x : ℕ) (l : List ℕ) (inside : base + used ≤ length l) 
       fronted =
           ap (λ (q : ℕ). front x q (take (used + 1) (drop base l))) last
           ∙ ap (λ (t : List ℕ). x ∷ (take used (take (used + 1) (drop base l)) ++ t)) tail
-          ∙ ap (λ (t : List ℕ). x ∷ t) (mathlib.Core.List.append-nil (take used (take (used + 1) (drop base l))) ∙ take-take used (used + 1) (drop base l) (omega arith) ∙ sym (absent-remove x (part base used l) absent))
+          ∙ ap (λ (t : List ℕ). x ∷ t) (mathlib.Core.List.append-nil (take used (take (used + 1) (drop base l)))
+          ∙ take-take used (used + 1) (drop base l) (omega arith) ∙ sym (absent-remove x (part base used l) absent))
 
       long : length (x ∷ remove x (part base used l)) ≡ used + 1
       long = length-front x (part base used l) ∙ simp absent (omega (arith, part-long))

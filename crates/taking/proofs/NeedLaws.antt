@@ -1,7 +1,7 @@
 -- What refusals 1 to 5 leave of a state and its tables, what that says of the tables' parts, and back.
 -- Assumes nothing.
 use Prim.Native.Nat.{ℕ, _+_, _*_, _≤_, _<_}
-use mathlib.Core.Path.{_≡_, refl, sym, _∙_}
+use mathlib.Core.Path.{_≡_}
 use mathlib.Core.Bool.{Bool, true, false, cond, not}
 use mathlib.Core.List.{List}
 use lib.ListN.{length}
@@ -9,7 +9,7 @@ use native.Mathlib.Nat.{mul-le-mul}
 use native.Mathlib.Omega.{arith}
 use lib.Dec.{eqb, ltb}
 use borrow.Author.Tests.{not-false, ltb-false, lt-ltb, le-ltb, eqb-false}
-use Rattle.lists.specs.Tests.{All≤, anyTo}
+use Rattle.lists.specs.Tests.{anyTo}
 use Rattle.lists.proofs.BoolLaws.{or-none, or-both}
 use Rattle.lists.proofs.PartLaws.{row-in, rows-le}
 use Rattle.lists.proofs.TestLaws.{all-facts, all-yes, none-first, any-not, any-none-of}
@@ -64,7 +64,24 @@ grid-of v n m f = record {
   inside = f .wide;
 }
 
--- what refusals 1 to 5 leave
+-- the stack of size k is above room
+abbrev tooLong : Opened → ℕ → Bool
+tooLong v k = ltb (v .order .room) (usedOf v k)
+
+-- what refusals 1 to 4 leave
+pub fit-past : (v : Opened) (n m : ℕ) → within (v .order) ≡ true → ltb n (stackNeed (v .order)) ≡ false → ltb m (countNeed (v .order)) ≡ false
+    → isForeign v ≡ false → Fit v n m
+fit-past v n m first second third fourth =
+    let own = or-none (anyTo (sizes (v .order)) (tooLong v)) (ltb (v .order .refs) (v .taken)) fourth in
+    record {
+      numbers = all-facts (limits (v .order)) first;
+      long = ltb-false n (stackNeed (v .order)) second;
+      wide = ltb-false m (countNeed (v .order)) third;
+      used = λ k h. ltb-false (v .order .room) (usedOf v k) (any-not (sizes (v .order)) (tooLong v) (own .0) k h);
+      ceiling = ltb-false (v .order .refs) (v .taken) (own .1);
+    }
+
+-- and what 5 leaves
 pub fit-of : (v : Opened) (n m : ℕ) → earlyAnswer v n m ≡ 0 → Fit v n m × (v .taken < v .order .refs)
 fit-of v n m e =
     let first = none-first (not (within (v .order))) 0 _ e in
@@ -72,18 +89,9 @@ fit-of v n m e =
     let third = none-first (ltb m (countNeed (v .order))) 2 _ (second .1) in
     let fourth = none-first (isForeign v) 3 _ (third .1) in
     let fifth = none-first (eqb (v .taken) (v .order .refs)) 4 0 (fourth .1) in
-    let own = or-none (anyTo (sizes (v .order)) (λ (k : ℕ). ltb (v .order .room) (usedOf v k))) (ltb (v .order .refs) (v .taken)) (fourth .0) in
-    let below = ltb-false (v .order .refs) (v .taken) (own .1) in
     let less : v .taken ≡ v .order .refs → ⊥ = eqb-false (v .taken) (v .order .refs) (fifth .0) in
-    let fit : Fit v n m = record {
-      numbers = all-facts (limits (v .order)) (not-false (within (v .order)) (first .0));
-      long = ltb-false n (stackNeed (v .order)) (second .0);
-      wide = ltb-false m (countNeed (v .order)) (third .0);
-      used =
-          λ k h. ltb-false (v .order .room) (usedOf v k) (any-not (sizes (v .order)) (λ (k : ℕ). ltb (v .order .room) (usedOf v k)) (own .0) k h);
-      ceiling = below;
-    } in
-    (fit, omega (arith, less))
+    let fit = fit-past v n m (not-false (within (v .order)) (first .0)) (second .0) (third .0) (fourth .0) in
+    (fit, omega (arith, less, fit .ceiling))
 
 -- the walks look at no count
 pub fit-walk : (v : Opened) (n m : ℕ) → Fit v n m → Fit v n (countNeed (v .order))
@@ -96,8 +104,8 @@ fit-tops v n m f = record { numbers = f .numbers; long = omega arith; wide = f .
 -- and back: none of 1 to 4 applies where the state fits, and 5 not below refs
 pub own-of : (v : Opened) (n m : ℕ) → Fit v n m → isForeign v ≡ false
 own-of v n m f =
-    or-both (anyTo (sizes (v .order)) (λ (k : ℕ). ltb (v .order .room) (usedOf v k))) (ltb (v .order .refs) (v .taken))
-    (any-none-of (sizes (v .order)) (λ (k : ℕ). ltb (v .order .room) (usedOf v k)) (λ k h. le-ltb (v .order .room) (usedOf v k) (f .used k h)))
+    or-both (anyTo (sizes (v .order)) (tooLong v)) (ltb (v .order .refs) (v .taken))
+    (any-none-of (sizes (v .order)) (tooLong v) (λ k h. le-ltb (v .order .room) (usedOf v k) (f .used k h)))
     (le-ltb (v .order .refs) (v .taken) (f .ceiling))
 
 -- THE ANSWER where the state fits: 5, 6, 7 are left

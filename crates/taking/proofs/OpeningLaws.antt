@@ -1,7 +1,7 @@
 -- Opening what the order's constructor hands back is opening the order: where it is outside its limits, so are the zeros. Assumes nothing.
 use Prim.Native.Nat.{ℕ}
-use mathlib.Core.Path.{_≡_, ap, _∙_, subst}
-use mathlib.Core.Bool.{Bool, true, false, cond}
+use mathlib.Core.Path.{ap, _∙_, subst}
+use mathlib.Core.Bool.{Bool, cond}
 use Rattle.lists.specs.Tests.{allLe}
 use Rattle.lists.proofs.Cases.{cases}
 use Rattle.order.specs.declared.Order.{Order}

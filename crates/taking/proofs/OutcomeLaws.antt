@@ -7,7 +7,7 @@ use mathlib.Core.List.{List}
 use native.Mathlib.Omega.{arith}
 use lib.Dec.{eqb, ltb, leb}
 use lib.ListN.{length, getD, replicate}
-use borrow.Author.Tests.{eq-eqb, ne-eqb, ltb-true, lt-ltb, leb-false, lt-leb}
+use borrow.Author.Tests.{ne-eqb, ltb-true, lt-ltb, leb-false, lt-leb}
 use Rattle.lists.specs.Members.{above}
 use Rattle.lists.specs.Tables.{overRow, overGroups, raisedGroups}
 use Rattle.lists.specs.Tests.{anyTo}
@@ -19,8 +19,8 @@ use Rattle.lists.proofs.TestLaws.{settled-done, settled-not, any-same, any-not}
 use Rattle.cache.specs.Cache.{blockOf, ref}
 use Rattle.cache.proofs.SizeLaws.{block-wider}
 use Rattle.order.specs.Limits.{sizes, within, rows, stackNeed, countNeed}
-use Rattle.taking.specs.Places.{usedOf, stackAt, blockAt, foundAt, depthAt}
-use Rattle.taking.specs.Plain.{fullAt, overAll, stateDone, stacksDone, countsDone}
+use Rattle.taking.specs.Places.{usedOf, stackAt, blockAt, foundAt, depthAt, fullAt}
+use Rattle.taking.specs.Plain.{overAll, stateDone, stacksDone, countsDone}
 use Rattle.taking.specs.Taking.{isForeign, taken, someSize, takeAnswer, Takes}
 use Rattle.taking.specs.World.{world}
 use Rattle.sizes.specs.Size.{isFull, isOver}
@@ -52,7 +52,8 @@ module _ (v : Opened) (st : List ℕ) (x : ℕ → ℕ) (m : ℕ) (ps ds : List 
   pub full-is : anyTo (sizes (v .order)) (λ (k : ℕ). leb (v .order .room) (getD ps k 0)) ≡ anyTo (sizes (v .order)) (fullAt v st x)
   full-is = any-same (sizes (v .order)) (λ (k : ℕ). leb (v .order .room) (getD ps k 0)) (fullAt v st x) same-full
 
-  pub over-is : (ct : List ℕ) → overGroups (v .order .ways) (rows (v .order)) (foundBy (v .used) ps) (deepBy ds) (v .taken) (sizes (v .order)) ct ≡ overAll v st ct x
+  pub over-is : (ct : List ℕ)
+      → overGroups (v .order .ways) (rows (v .order)) (foundBy (v .used) ps) (deepBy ds) (v .taken) (sizes (v .order)) ct ≡ overAll v st ct x
   over-is ct =
       any-same (sizes (v .order))
       (λ (k : ℕ). foundBy (v .used) ps k && anyTo (rows (v .order)) (overRow (v .order .ways) (k * rows (v .order)) (deepBy ds k) (v .taken) ct))
@@ -60,11 +61,16 @@ module _ (v : Opened) (st : List ℕ) (x : ℕ → ℕ) (m : ℕ) (ps ds : List 
       (λ k h.
       ap (λ (t : Bool). t && anyTo (rows (v .order)) (overRow (v .order .ways) (k * rows (v .order)) (deepBy ds k) (v .taken) ct)) (same-found k h)
       ∙ ap (λ (t : Bool). foundAt v st x k && t)
-      (any-same (rows (v .order)) (overRow (v .order .ways) (k * rows (v .order)) (deepBy ds k) (v .taken) ct) (overRow (v .order .ways) (k * rows (v .order)) (depthAt v st x k) (v .taken) ct)
-      (λ s g. ap (λ (n : ℕ). ltb n (v .order .ways) && leb (v .taken) (getD ct ((k * rows (v .order) + s) * v .order .ways + n) 0)) (seen .deep k s h g))))
+      (any-same (rows (v .order)) (overRow (v .order .ways) (k * rows (v .order)) (deepBy ds k) (v .taken) ct)
+      (overRow (v .order .ways) (k * rows (v .order)) (depthAt v st x k) (v .taken) ct)
+      (λ s g. ap (λ (n : ℕ). ltb n (v .order .ways) && leb (v .taken) (getD ct ((k * rows (v .order) + s) * v .order .ways + n) 0))
+      (seen .deep k s h g))))
 
-  pub counts-is : (ct : List ℕ) → raisedGroups (v .order .ways) (rows (v .order)) (foundBy (v .used) ps) (deepBy ds) (sizes (v .order)) ct ≡ countsDone v st ct x
-  counts-is ct = groups-same (v .order .ways) (rows (v .order)) (foundBy (v .used) ps) (foundAt v st x) (deepBy ds) (depthAt v st x) (sizes (v .order)) ct same-found (seen .deep)
+  pub counts-is : (ct : List ℕ)
+      → raisedGroups (v .order .ways) (rows (v .order)) (foundBy (v .used) ps) (deepBy ds) (sizes (v .order)) ct ≡ countsDone v st ct x
+  counts-is ct =
+      groups-same (v .order .ways) (rows (v .order)) (foundBy (v .used) ps) (foundAt v st x) (deepBy ds) (depthAt v st x)
+      (sizes (v .order)) ct same-found (seen .deep)
 
   pub room-of : length (v .used) ≡ 8 → length ps ≡ 8 → anyTo (sizes (v .order)) (λ (k : ℕ). leb (v .order .room) (getD ps k 0)) ≡ false
       → Roomed (sizes (v .order)) (v .order .room) x st (v .used) ps
@@ -101,7 +107,9 @@ getD-zeros (suc n) (suc i) = getD-zeros n i
 pub raisable-of : (n r w taken : ℕ) (ct : List ℕ) (f : ℕ → Bool) (d : ℕ → ℕ → ℕ) → taken ≤ countMost → overGroups w r f d taken n ct ≡ false
     → AllRaisable n r w f d ct
 raisable-of n r w taken ct f d small none k h e s g below =
-    let group = and-false-of (f k) (anyTo r (overRow w (k * r) (d k) taken ct)) (any-not n (λ (k : ℕ). f k && anyTo r (overRow w (k * r) (d k) taken ct)) none k h) e in
+    let group =
+    and-false-of (f k) (anyTo r (overRow w (k * r) (d k) taken ct))
+    (any-not n (λ (k : ℕ). f k && anyTo r (overRow w (k * r) (d k) taken ct)) none k h) e in
     let row = any-not r (overRow w (k * r) (d k) taken ct) group s g in
     let under = leb-false taken (getD ct ((k * r + s) * w + d k s) 0)
     (and-false-of (ltb (d k s) w) (leb taken (getD ct ((k * r + s) * w + d k s) 0)) row (lt-ltb (d k s) w below)) in
@@ -130,14 +138,16 @@ module _ (v : Opened) (st ct : List ℕ) (a : ℕ) where
   answer-is : takeAnswer (world v st ct) (ref a)
       ≡ cond (eqb (earlyAnswer v (length st) (length ct)) 0) (cond full 6 (cond over 7 0)) (earlyAnswer v (length st) (length ct))
   answer-is =
-      first-five (not (within (v .order))) (ltb (length st) (stackNeed (v .order))) (ltb (length ct) (countNeed (v .order))) (isForeign v) (eqb (v .taken) (v .order .refs))
+      first-five (not (within (v .order))) (ltb (length st) (stackNeed (v .order))) (ltb (length ct) (countNeed (v .order))) (isForeign v)
+      (eqb (v .taken) (v .order .refs))
       (cond full 6 (cond over 7 0))
 
   pub answer-early : (r : ℕ) → r ≡ earlyAnswer v (length st) (length ct) → (r ≡ 0 → ⊥) → r ≡ takeAnswer (world v st ct) (ref a)
   answer-early r e ne =
       sym (answer-is ∙ simp (ne-eqb (earlyAnswer v (length st) (length ct)) 0 (λ z. ne (e ∙ z))) (sym e))
 
-  pub answer-late : Fit v (length st) (length ct) → v .taken < v .order .refs → (t u : Bool) → anyTo (sizes (v .order)) (fullAt v st (blockAt v a)) ≡ t → overAll v st ct (blockAt v a) ≡ u
+  pub answer-late : Fit v (length st) (length ct) → v .taken < v .order .refs → (t u : Bool)
+      → anyTo (sizes (v .order)) (fullAt v st (blockAt v a)) ≡ t → overAll v st ct (blockAt v a) ≡ u
       → takeAnswer (world v st ct) (ref a) ≡ cond t 6 (cond u 7 0)
   answer-late f less t u p q =
       let short = ne-eqb (v .taken) (v .order .refs) (λ z. omega arith) in
@@ -153,7 +163,8 @@ module _ (v : Opened) (st ct : List ℕ) (a : ℕ) where
   }
 
   pub done : (v′ : Opened) (st′ ct′ : List ℕ) → Fit v (length st) (length ct) → takeAnswer (world v st ct) (ref a) ≡ 0
-      → v′ ≡ stateDone v st (blockAt v a) → st′ ≡ stacksDone v st (blockAt v a) → ct′ ≡ countsDone v st ct (blockAt v a) → Takes (world v st ct) (ref a) 0 (world v′ st′ ct′)
+      → v′ ≡ stateDone v st (blockAt v a) → st′ ≡ stacksDone v st (blockAt v a) → ct′ ≡ countsDone v st ct (blockAt v a) → Takes (world v st ct)
+      (ref a) 0 (world v′ st′ ct′)
   done v′ st′ ct′ f z p q r = record {
     answer = sym z;
     left =

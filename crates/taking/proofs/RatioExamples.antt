@@ -41,6 +41,7 @@ unfolding round anyTo allLe
 worked-ratios = refl
 
 -- before the first
-pub worked-before : ratiosOf (worked 0 (replicate 8 0)) (replicate 4 0) 4 1 2 ≡ record { state = worked 0 (replicate 8 0); answer = 9; ratios = noRatios }
+pub worked-before : ratiosOf (worked 0 (replicate 8 0)) (replicate 4 0) 4 1 2
+    ≡ record { state = worked 0 (replicate 8 0); answer = 9; ratios = noRatios }
 unfolding anyTo allLe
 worked-before = refl

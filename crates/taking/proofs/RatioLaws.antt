@@ -2,7 +2,7 @@
 -- exactly 2^b times it, so that no NaN and no infinity comes. Not here: rounding (RoundingLaws). Assumes nothing.
 use Prim.Native.Nat.{ℕ, _-_, _^_, _≤_}
 use mathlib.Core.Path.{_≡_, refl, sym, ap, subst}
-use mathlib.Core.Bool.{Bool, true, false, cond, not}
+use mathlib.Core.Bool.{Bool, true, false, cond}
 use mathlib.Core.List.{List}
 use native.Mathlib.Omega.{arith}
 use borrow.Author.Tests.{ne-eqb, eqb-true, eqb-false}
@@ -40,7 +40,8 @@ module _ (c r : Counted) (n b : ℕ) (e : r ≡ c) where
   pub rated-none : r .answer ≡ 0 → n ≡ 0 → _≡_ {A = Rated} (record { state = c .state; answer = noReferences; ratios = zeros }) (ratiosFrom c n b)
   rated-none h z = rw (← e) (simp (h, z, positive-zero))
 
-  pub rated-given : r .answer ≡ 0 → (n ≡ 0 → ⊥) → _≡_ {A = Rated} (record { state = c .state; answer = 0; ratios = ratiosAt (r .misses) n b }) (ratiosFrom c n b)
+  pub rated-given : r .answer ≡ 0 → (n ≡ 0 → ⊥)
+      → _≡_ {A = Rated} (record { state = c .state; answer = 0; ratios = ratiosAt (r .misses) n b }) (ratiosFrom c n b)
   rated-given h z = rw (← e) (simp (h, ne-eqb n 0 z))
 
 given-facts : (c : Counted) (n : ℕ) → ratiosAnswer c n ≡ 0 → (c .answer ≡ 0) × (n ≡ 0 → ⊥)
@@ -68,7 +69,9 @@ module _ (v : Opened) (ct : List ℕ) (b s w : ℕ) (given : ratiosOf v ct b s w
   counted-given = given-facts (missesOf v ct b s w) (v .taken) given
 
   ratios-given : ratiosOf v ct b s w .ratios ≡ ratiosAt (missesOf v ct b s w .misses) (v .taken) b
-  ratios-given = sym (ap (λ (x : Rated). x .ratios) (rated-given (missesOf v ct b s w) (missesOf v ct b s w) (v .taken) b refl (counted-given .0) (counted-given .1)))
+  ratios-given =
+      sym (ap (λ (x : Rated). x .ratios) (rated-given (missesOf v ct b s w) (missesOf v ct b s w) (v .taken) b refl (counted-given .0)
+      (counted-given .1)))
 
   misses-le-taken : missesOf v ct b s w .misses ≤ v .taken
   misses-le-taken = part-le (eqb (missesAnswer v ct b s w) 0) (v .taken) (hitsOf v ct b s w)
@@ -82,4 +85,5 @@ module _ (v : Opened) (ct : List ℕ) (b s w : ℕ) (given : ratiosOf v ct b s w
   traffic-exactly-times =
       let small = counted-small v ct b s w (counted-given .0) in
       subst (λ (x : Ratios). Times (2 ^ b) (x .miss) (x .traffic)) (sym ratios-given)
-      (traffic-times (missesOf v ct b s w .misses) (v .taken) b (omega (arith, misses-le-taken, small .1)) (omega (arith, small .1)) (omega (arith, counted-given .1)) (small .0))
+      (traffic-times (missesOf v ct b s w .misses) (v .taken) b (omega (arith, misses-le-taken, small .1)) (omega (arith, small .1))
+      (omega (arith, counted-given .1)) (small .0))

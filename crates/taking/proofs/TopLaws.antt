@@ -1,7 +1,7 @@
 -- Where the block is on top of every stack: it is found, each depth is 0, no stack changes, and the counts to be raised are the first of each row.
 -- Assumes nothing.
 use Prim.Native.Nat.{ℕ, _+_, _*_, _<_}
-use mathlib.Core.Path.{_≡_, refl, sym, ap, _∙_}
+use mathlib.Core.Path.{_≡_, sym, ap, _∙_}
 use mathlib.Core.Bool.{Bool, true, false, not, _&&_}
 use mathlib.Core.List.{List, [], _∷_}
 use native.Mathlib.Nat.{add-zero}
@@ -19,9 +19,9 @@ use Rattle.lists.proofs.TestLaws.{any-not, any-same, any-none-of}
 use Rattle.lists.proofs.TopRowLaws.{over-top, any-groups, raised-groups, written-same, lengths-same}
 use Rattle.cache.specs.Cache.{setOf}
 use Rattle.order.specs.Limits.{sizes, rows}
-use Rattle.taking.specs.Places.{usedOf, stackAt, foundAt, depthAt}
-use Rattle.taking.specs.Plain.{fullAt, overAll, topped, stateDone, stacksDone, countsDone}
-use Rattle.taking.specs.Parts.{countMost, Fit, offTop, onTop}
+use Rattle.taking.specs.Places.{usedOf, stackAt, foundAt, depthAt, fullAt}
+use Rattle.taking.specs.Plain.{overAll, topped, stateDone, stacksDone, countsDone}
+use Rattle.taking.specs.Parts.{Fit, offTop, onTop}
 use Rattle.taking.specs.declared.Opened.{Opened}
 use Rattle.taking.proofs.NeedLaws.{stack-fits}
 use Rattle.taking.proofs.LookLaws.{length-stack, read-stack}
@@ -54,17 +54,20 @@ module _ (v : Opened) (st : List ℕ) (x : ℕ → ℕ) (m : ℕ) (f : Fit v (le
   pub top-full : anyTo (sizes (v .order)) (fullAt v st x) ≡ false
   top-full = any-none-of (sizes (v .order)) (fullAt v st x) (λ k h. simp (top-stack k h .0))
 
-  pub top-over : (ct : List ℕ) → anyTo (sizes (v .order) * rows (v .order)) (λ (s : ℕ). leb (v .taken) (getD ct (s * v .order .ways) 0)) ≡ overAll v st ct x
+  pub top-over : (ct : List ℕ)
+      → anyTo (sizes (v .order) * rows (v .order)) (λ (s : ℕ). leb (v .taken) (getD ct (s * v .order .ways) 0)) ≡ overAll v st ct x
   top-over ct =
       sym
       (any-same (sizes (v .order))
       (λ (k : ℕ). foundAt v st x k && anyTo (rows (v .order)) (overRow (v .order .ways) (k * rows (v .order)) (depthAt v st x k) (v .taken) ct))
       (λ (k : ℕ). anyTo (rows (v .order)) (λ (s : ℕ). leb (v .taken) (getD ct ((k * rows (v .order) + s) * v .order .ways) 0)))
       (λ k h.
-      ap (λ (t : Bool). t && anyTo (rows (v .order)) (overRow (v .order .ways) (k * rows (v .order)) (depthAt v st x k) (v .taken) ct)) (top-stack k h .0)
+      ap (λ (t : Bool). t && anyTo (rows (v .order)) (overRow (v .order .ways) (k * rows (v .order)) (depthAt v st x k) (v .taken) ct))
+      (top-stack k h .0)
       ∙ any-same (rows (v .order)) (overRow (v .order .ways) (k * rows (v .order)) (depthAt v st x k) (v .taken) ct)
       (λ (s : ℕ). leb (v .taken) (getD ct ((k * rows (v .order) + s) * v .order .ways) 0))
-      (λ s g. over-top (v .order .ways) (k * rows (v .order)) (depthAt v st x k) (v .taken) ct s (top-depth k s h) (omega (arith, f .numbers, f .ceiling))))
+      (λ s g. over-top (v .order .ways) (k * rows (v .order)) (depthAt v st x k) (v .taken) ct s (top-depth k s h)
+      (omega (arith, f .numbers, f .ceiling))))
       ∙ any-groups (sizes (v .order)) (rows (v .order)) (λ (s : ℕ). leb (v .taken) (getD ct (s * v .order .ways) 0)))
 
   pub top-counts : (ct : List ℕ) → raisedRows (v .order .ways) 0 (λ (t : ℕ). 0) (sizes (v .order) * rows (v .order)) ct ≡ countsDone v st ct x
@@ -88,7 +91,8 @@ module _ (v : Opened) (st : List ℕ) (x : ℕ → ℕ) (m : ℕ) (f : Fit v (le
       (sym (lengths-same (topped v st x) (v .used) (sizes (v .order)) (λ k h. ap length (top-stack k h .2) ∙ length-stack v st m k f h)))
 
 -- where no count is over, each can go up by one
-pub top-small : (v : Opened) (n m : ℕ) → Fit v n m → (ct : List ℕ) → anyTo (sizes (v .order) * rows (v .order)) (λ (s : ℕ). leb (v .taken) (getD ct (s * v .order .ways) 0)) ≡ false
+pub top-small : (v : Opened) (n m : ℕ) → Fit v n m → (ct : List ℕ)
+    → anyTo (sizes (v .order) * rows (v .order)) (λ (s : ℕ). leb (v .taken) (getD ct (s * v .order .ways) 0)) ≡ false
     → (s : ℕ) → s < sizes (v .order) * rows (v .order) → getD ct (s * v .order .ways) 0 < 4294967295
 top-small v n m f ct e s h =
     let under = leb-false (v .taken) (getD ct (s * v .order .ways) 0)

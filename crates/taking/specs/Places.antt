@@ -1,8 +1,9 @@
 -- The opened order and where things stand in its two tables (SCOPE, "The order's numbers").
 -- A block size is named by k = b - bmin, from 0 to sizes - 1. Assumes nothing.
 use Prim.Native.Nat.{ℕ, _+_, _*_}
-use mathlib.Core.Bool.{Bool}
+use mathlib.Core.Bool.{Bool, not, _&&_}
 use mathlib.Core.List.{List}
+use lib.Dec.{leb}
 use lib.ListN.{getD}
 use Rattle.lists.specs.Members.{mem}
 use Rattle.lists.specs.Tables.{part}
@@ -37,3 +38,7 @@ foundAt v st x k = mem (x k) (stackAt v st k)
 
 abbrev pub depthAt : Opened → List ℕ → (ℕ → ℕ) → ℕ → ℕ → ℕ
 depthAt v st x k s = depth s (x k) (stackAt v st k)
+
+-- at block size k the block is new and its stack is full
+abbrev pub fullAt : Opened → List ℕ → (ℕ → ℕ) → ℕ → Bool
+fullAt v st x k = not (foundAt v st x k) && leb (v .order .room) (usedOf v k)

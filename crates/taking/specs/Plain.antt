@@ -1,18 +1,13 @@
 -- A taking over all block sizes at once, as the private functions do it: proofs/TakenLaws.antt has that it is the taking of each size.
 -- A block is told by size: x k is the block at size k. No public contract cites this page. Assumes nothing.
 use Prim.Native.Nat.{ℕ, _+_}
-use mathlib.Core.Bool.{Bool, not, _&&_}
+use mathlib.Core.Bool.{Bool}
 use mathlib.Core.List.{List, _∷_}
-use lib.Dec.{leb}
 use Rattle.lists.specs.Members.{remove}
 use Rattle.lists.specs.Tables.{writtenRows, setLengths, raisedGroups, overGroups}
 use Rattle.order.specs.Limits.{sizes, rows}
-use Rattle.taking.specs.Places.{usedOf, stackAt, foundAt, depthAt}
+use Rattle.taking.specs.Places.{stackAt, foundAt, depthAt}
 use Rattle.taking.specs.declared.Opened.{Opened}
-
--- at block size k the block is new and its stack is full
-abbrev pub fullAt : Opened → List ℕ → (ℕ → ℕ) → ℕ → Bool
-fullAt v st x k = not (foundAt v st x k) && leb (v .order .room) (usedOf v k)
 
 -- a count to be raised is not below the references taken
 abbrev pub overAll : Opened → List ℕ → List ℕ → (ℕ → ℕ) → Bool

@@ -1,6 +1,5 @@
 -- The questions (SCOPE, "Questions"): misses, refused with 1, 3, 4, 8, 7 in that order; then 9 for the ratios. Assumes nothing.
 use Prim.Native.Nat.{ℕ, _-_}
-use mathlib.Core.Path.{_≡_}
 use mathlib.Core.Bool.{Bool, cond, not}
 use mathlib.Core.List.{List, [], _∷_}
 use lib.Dec.{eqb, ltb}

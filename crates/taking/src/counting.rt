@@ -75,7 +75,9 @@ pub(crate) fn is_over(
 ) -> bool
     requires { ⌜ Tabled sizes rows ways (length (now counts)) (now used) (now places) (now depths) ⌝ }
     ensures { λ r.
-        ⌜ r ≡ overGroups ways rows (foundBy (now (used .entry)) (now (places .entry))) (deepBy (now (depths .entry))) taken sizes (now (counts .entry)) ⌝ }
+        ⌜ r
+        ≡ overGroups ways rows (foundBy (now (used .entry)) (now (places .entry))) (deepBy (now (depths .entry))) taken sizes
+        (now (counts .entry)) ⌝ }
 {
     let mut k = 0usize;
     while k < sizes {

@@ -1,5 +1,5 @@
 // The opened order, and what its functions hand back (SCOPE, "The order's numbers" and "Questions"). Its functions
-// stand in opening.rt, references.rt and questions.rt. Both tables are lent: slices of 32-bit numbers.
+// stand in opening.rt, references.rt, questions.rt and refusing.rt. Both tables are lent: slices of 32-bit numbers.
 use order::Order;
 
 mod counting;
@@ -8,6 +8,7 @@ mod opening;
 mod questions;
 mod rating;
 mod references;
+mod refusing;
 
 // The opened order: the order's numbers, the references taken, and the used length of each stack.
 pub struct Opened {

@@ -12,7 +12,9 @@ ghost use Rattle.taking.specs.Opening.{Opens, fresh, unopened};
 impl Opened {
     // Opens an order over two tables: zeroes what it needs of them.
     pub fn open(order: Order, stacks: &mut [u32], counts: &mut [u32]) -> Reply
-        ensures { λ r. ⌜ Opens order (unopened (now (stacks .entry)) (now (counts .entry))) (r .answer) (world (r .state) (now (stacks .exit)) (now (counts .exit))) ⌝ }
+        ensures { λ r.
+            ⌜ Opens order (unopened (now (stacks .entry)) (now (counts .entry))) (r .answer)
+            (world (r .state) (now (stacks .exit)) (now (counts .exit))) ⌝ }
     {
         let none = Opened::none();
         if !order.is_within() {

@@ -10,7 +10,6 @@ use units::refusal;
 ghost use mathlib.Core.Path.{_≡_};
 ghost use Rattle.taking.specs.Questions.{has as Questions·has, missesOf};
 ghost use Rattle.taking.specs.Ratios.{ratiosOf};
-ghost use Rattle.taking.specs.Parts.{unaskable};
 
 impl Opened {
     // The misses of the cache (b, s, w): the references taken less the counts at depths 0 to w - 1.
@@ -42,26 +41,6 @@ impl Opened {
             answer: refusal::DONE,
             misses: (taken - hits) as u32,
         }
-    }
-
-    // Refusals 1, 3, 4 and 8 of a question, with a count table of m entries; 0 where none applies.
-    fn unasked(self, m: usize, b: ByteExp, s: u32, w: u32) -> u32
-        ensures { λ r. ⌜ r ≡ unaskable self m (b .0) s w ⌝ }
-    {
-        let order = self.order;
-        if !order.is_within() {
-            return refusal::OUTSIDE_LIMITS;
-        }
-        if m < order.count_need() {
-            return refusal::SHORT_COUNTS;
-        }
-        if self.is_foreign() {
-            return refusal::FOREIGN_STATE;
-        }
-        if !self.has(b, s, w) {
-            return refusal::NOT_IN_ORDER;
-        }
-        refusal::DONE
     }
 
     // The two ratios of the cache (b, s, w), handed back together.

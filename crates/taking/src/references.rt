@@ -1,4 +1,4 @@
-// Taking a reference at all block sizes (SCOPE, "The stack and the counts"): the refusals, the quick way, the walk.
+// Taking a reference at all block sizes (SCOPE, "The stack and the counts"): the quick way, and the walk.
 use crate::Opened;
 use crate::Reply;
 use crate::counting::bump;
@@ -13,16 +13,16 @@ use units::Addr;
 use units::BlockNo;
 use units::refusal;
 ghost use mathlib.Core.Path.{_≡_};
-ghost use Prim.Native.Nat.{ℕ, _≤_, _<_};
+ghost use Prim.Native.Nat.{ℕ, _<_};
 ghost use mathlib.Core.Bool.{true};
 ghost use mathlib.Core.List.{List};
 ghost use lib.ListN.{length};
-ghost use Rattle.order.specs.Limits.{sizes, stackNeed, countNeed};
+ghost use Rattle.order.specs.Limits.{stackNeed, countNeed};
 ghost use Rattle.cache.specs.Cache.{blockOf, ref};
 ghost use Rattle.taking.specs.Places.{blockAt};
 ghost use Rattle.taking.specs.World.{world};
-ghost use Rattle.taking.specs.Taking.{Takes, isForeign};
-ghost use Rattle.taking.specs.Parts.{earlyAnswer, Fit, Blank, widerBy, onTop, Looked};
+ghost use Rattle.taking.specs.Taking.{Takes};
+ghost use Rattle.taking.specs.Parts.{Fit, Blank, widerBy, onTop, Looked};
 
 // Depths for every block size and s that an order can have.
 const DEPTHS: usize = Order::SIZES_MOST * Order::ROWS_MOST;
@@ -31,7 +31,8 @@ impl Opened {
     // Takes a reference. Most find their block on top of every stack: there each depth is 0 and nothing moves.
     pub fn take_ref(self, stacks: &mut [u32], counts: &mut [u32], a: Addr) -> Reply
         ensures { λ r.
-            ⌜ Takes (world self (now (stacks .entry)) (now (counts .entry))) (ref (a .0)) (r .answer) (world (r .state) (now (stacks .exit)) (now (counts .exit))) ⌝ }
+            ⌜ Takes (world self (now (stacks .entry)) (now (counts .entry))) (ref (a .0)) (r .answer)
+            (world (r .state) (now (stacks .exit)) (now (counts .exit))) ⌝ }
     {
         let early = self.early(stacks.len(), counts.len());
         if early != refusal::DONE {
@@ -45,46 +46,6 @@ impl Opened {
             return self.take_top(counts);
         }
         self.take_deep(stacks, counts, first)
-    }
-
-    // Refusals 1 to 5 of a taking, with tables of n and m entries; 0 where none applies.
-    fn early(self, n: usize, m: usize) -> u32
-        ensures { λ r. ⌜ r ≡ earlyAnswer self n m ⌝ }
-    {
-        let order = self.order;
-        if !order.is_within() {
-            return refusal::OUTSIDE_LIMITS;
-        }
-        if n < order.stack_need() {
-            return refusal::SHORT_STACKS;
-        }
-        if m < order.count_need() {
-            return refusal::SHORT_COUNTS;
-        }
-        if self.is_foreign() {
-            return refusal::FOREIGN_STATE;
-        }
-        if self.taken == order.refs {
-            return refusal::REFS_REACHED;
-        }
-        refusal::DONE
-    }
-
-    // The state has a used length above room for a block size of the order, or references above refs.
-    pub(crate) fn is_foreign(self) -> bool
-        requires { ⌜ sizes (self .order) ≤ 8 ⌝ }
-        ensures { λ r. ⌜ r ≡ isForeign self ⌝ }
-    {
-        let sizes = self.order.sizes();
-        let room = self.order.room;
-        let mut k = 0usize;
-        while k < sizes {
-            if self.used[k] > room {
-                return true;
-            }
-            k += 1;
-        }
-        self.taken > self.order.refs
     }
 
     // The block, `first` of the smallest size, is on top of the stack of every block size.
@@ -143,7 +104,8 @@ impl Opened {
         requires { ⌜ Fit self (length (now stacks)) (length (now counts)) × (self .taken < self .order .refs) ⌝ }
         ensures { λ r.
             ⌜ ((a : ℕ) → first .0 ≡ blockOf (self .order .bmin .0) a
-            → Takes (world self (now (stacks .entry)) (now (counts .entry))) (ref a) (r .answer) (world (r .state) (now (stacks .exit)) (now (counts .exit)))) ⌝ }
+            → Takes (world self (now (stacks .entry)) (now (counts .entry))) (ref a) (r .answer)
+            (world (r .state) (now (stacks .exit)) (now (counts .exit)))) ⌝ }
     {
         let order = self.order;
         let sizes = order.sizes();

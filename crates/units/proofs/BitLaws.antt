@@ -1,7 +1,7 @@
 -- Shifts by more places than there are, and by fewer: what `Addr::block` and `BlockNo::set` ask of numbers of 32 bits; and when two are equal.
 -- Assumes nothing.
 use Prim.Native.Nat.{ℕ, _*_, _/_, _%_, _^_, _≤_, _<_}
-use mathlib.Core.Path.{_≡_, refl, sym, ap, ap₂, _∙_}
+use mathlib.Core.Path.{_≡_, ap₂, _∙_}
 use native.Mathlib.Nat.{one-mul, lt-of-lt-of-le, div-eq-of-lt, mod-eq-of-lt}
 use native.Mathlib.Omega.{arith}
 use lib.Bits.{bitXor}

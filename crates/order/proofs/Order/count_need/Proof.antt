@@ -1,6 +1,6 @@
 -- `Order::count_need` meets its contract: within the limits the product is small. Assumes nothing.
-use mathlib.Core.Path.{_≡_, sym, ap₂, _∙_}
-use Prim.Native.Nat.{ℕ, _*_}
+use mathlib.Core.Path.{sym, ap₂, _∙_}
+use Prim.Native.Nat.{_*_}
 use borrow.Author.Needs.{needs}
 use native.Mathlib.Omega.{arith}
 use Rattle.order.proofs.LimitLaws.{within-no, within-test, within-yes, needs-small, need-spans}

@@ -1,6 +1,6 @@
 -- `Order::is_within` meets its contract: each `return` has the test that fails, and at the last none does. Assumes nothing.
 use borrow.Author.Needs.{needs}
-use mathlib.Core.Path.{_≡_, sym}
+use mathlib.Core.Path.{sym}
 use native.Mathlib.Omega.{arith}
 use Rattle.lists.proofs.TestLaws.{all-yes, all-not}
 use Rattle.order.specs.Limits.{limits}

@@ -1,6 +1,6 @@
 -- `Order::new` meets its contract: the test picks the case, of the answer and of the order alike. Assumes nothing.
 use borrow.Author.Needs.{needs}
-use mathlib.Core.Path.{_≡_, sym, _∙_}
+use mathlib.Core.Path.{sym, _∙_}
 use Rattle.order.proofs.Order.new.Statement.{statement}
 use Rattle.order.proofs.Order.new.Tie as tie
 

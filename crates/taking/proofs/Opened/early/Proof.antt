@@ -42,7 +42,8 @@ returns-3 : tie.Need-returns-3
 returns-3 c = let l = c .before .before in simp (fits (l .before .before), long l, short-of (need (c .before)) (c .if3 .taken))
 
 is-foreign-requires : tie.Need-is-foreign-requires
-is-foreign-requires c κs = let at = c .before .before .before .before in omega (arith, within-yes _ _ (at .before .is-within .ensures) (at .if1 .left))
+is-foreign-requires c κs =
+    let at = c .before .before .before .before in omega (arith, within-yes _ _ (at .before .is-within .ensures) (at .if1 .left))
 
 returns-4 : tie.Need-returns-4
 returns-4 c =
@@ -52,15 +53,17 @@ returns-4 c =
 
 returns-5 : tie.Need-returns-5
 returns-5 c =
-    let o = c .before .before .before in
+    let o = c .before in
     let l = o .before .before .before .before in
-    simp (fits (l .before .before), long l, wide (o .before .before), own o, eq-eqb _ _ (c .if5 .taken))
+    let v = l .before .before .before .before .before .args .self in
+    simp (fits (l .before .before), long l, wide (o .before .before), own o, eq-eqb (v .taken) (v .order .refs) (c .if5 .taken))
 
 returns-6 : tie.Need-returns-6
 returns-6 c =
-    let o = c .before .before .before in
+    let o = c .before in
     let l = o .before .before .before .before in
-    simp (fits (l .before .before), long l, wide (o .before .before), own o, ne-eqb _ _ (c .if5 .left))
+    let v = l .before .before .before .before .before .args .self in
+    simp (fits (l .before .before), long l, wide (o .before .before), own o, ne-eqb (v .taken) (v .order .refs) (c .if5 .left))
 
 -- closed by search
 pub early-spec : {M : Type 1} → statement M

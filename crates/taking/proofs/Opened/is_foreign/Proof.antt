@@ -1,7 +1,7 @@
 -- `is_foreign` meets its contract: no used length passed is above room. Assumes nothing.
 use Prim.Native.Nat.{ℕ, _≤_, _-_}
-use mathlib.Core.Path.{_≡_}
-use mathlib.Core.Bool.{Bool, false}
+use mathlib.Core.Path.{_≡_, sym, ap}
+use mathlib.Core.Bool.{Bool, false, _||_}
 use native.Mathlib.Omega.{arith}
 use lib.Dec.{ltb}
 use borrow.Author.Needs.{needs}
@@ -39,7 +39,8 @@ returns-2 : tie.Need-returns-2 Inv-loop μ-loop
 returns-2 c =
     let l = c .before in
     let v = l .before .before .before .args .t1 in
-    simp (any-ended (sizesOf (v .order)) (l .loop .k) (tooLong v) (omega arith) (omega arith) (l .loop .inv .1))
+    let none = any-ended (sizesOf (v .order)) (l .loop .k) (tooLong v) (omega arith) (omega arith) (l .loop .inv .1) in
+    sym (ap (λ (t : Bool). t || ltb (v .order .refs) (v .taken)) none)
 
 -- closed by search
 pub is-foreign-spec : {M : Type 1} → statement M

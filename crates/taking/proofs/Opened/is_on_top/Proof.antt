@@ -2,7 +2,7 @@
 -- zeros. Assumes nothing.
 use Prim.Native.Nat.{ℕ, _≤_, _<_, _-_, _+_, _*_}
 use mathlib.Core.Path.{_≡_, sym, ap, _∙_}
-use mathlib.Core.Bool.{Bool, true, false, not, _||_}
+use mathlib.Core.Bool.{false}
 use native.Mathlib.Omega.{arith}
 use lib.Bits.{bitXor}
 use lib.Count.{trailingZeros}
@@ -15,7 +15,7 @@ use Rattle.lists.proofs.TestLaws.{any-none, any-more, any-yes, any-ended}
 use Rattle.order.specs.Limits.{sizes as sizesOf, countNeed}
 use Rattle.units.proofs.BitLaws.{equal-by-bits}
 use Rattle.taking.specs.Places.{usedOf}
-use Rattle.taking.specs.Parts.{Fit, widerBy, offTop, onTop}
+use Rattle.taking.specs.Parts.{widerBy, offTop}
 use Rattle.taking.proofs.NeedLaws.{stack-fits}
 use Rattle.taking.proofs.Opened.is_on_top.Statement.{statement}
 use Rattle.taking.proofs.Opened.is_on_top.Tie as tie

@@ -1,8 +1,7 @@
--- `look` meets its contract. Outer loop: the sizes passed are looked at (`Sizes`). Inner loop: the entries passed are counted (`Walking`); each of its
--- two breaks gives `Left`. Assumes nothing.
+-- `look` meets its contract. Outer loop: the sizes passed are looked at (`Sizes`). Inner loop: the entries passed are counted (`Walking`); each of
+-- its two breaks gives `Left`. Assumes nothing.
 use Prim.Native.Nat.{ℕ, _≤_, _<_, _-_, _+_, _*_}
-use mathlib.Core.Path.{_≡_, sym, _∙_, subst₂}
-use mathlib.Core.List.{List}
+use mathlib.Core.Path.{sym, _∙_, subst₂}
 use mathlib.Core.Logic.{⊎-elim}
 use native.Mathlib.Omega.{arith}
 use lib.Bits.{bitXor}
@@ -11,7 +10,7 @@ use lib.ListN.{length, getD}
 use borrow.Author.Needs.{needs}
 use Rattle.order.specs.Limits.{sizes as sizesOf, countNeed}
 use Rattle.taking.specs.Places.{usedOf}
-use Rattle.taking.specs.Parts.{Fit, Bumped, widerBy}
+use Rattle.taking.specs.Parts.{Bumped, widerBy}
 use Rattle.taking.proofs.NeedLaws.{stack-fits}
 use Rattle.taking.proofs.LookLaws.{Sizes, Walking, Left, walk-start, walk-on, walk-found, walk-end, count-small, size-done, looked-of}
 use Rattle.taking.proofs.Opened.look.Statement.{statement}
@@ -50,7 +49,8 @@ inside c =
 
 -- where the walk has left, by either break
 left : (c : tie.Joined1 Inv-loop2 μ-loop2 Inv-loop μ-loop)
-    → (let w = c .before in let at = w .before .before .before in let a = at .before .before .before .before .before .before .before .before .before .args in
+    → (let w = c .before in let at = w .before .before .before in
+    let a = at .before .before .before .before .before .before .before .before .before .args in
     Left (a .t1) (a .stacks .now) (widerBy (a .first .0)) (at .before .loop .k) (c .if1 .place) (w .loop2 .depths))
 left c =
     let w = c .before in
@@ -70,20 +70,18 @@ left c =
 
 -- ---- the walk
 
+-- the count of trailing zeros is small
+few-zeros : (n : ℕ) → trailingZeros 32 n < 18446744073709551616
+few-zeros n = omega (arith, trailing-le 32 n)
+
 loop2-holds : tie.Need-loop2-holds Inv-loop2 μ-loop2 Inv-loop μ-loop
 loop2-holds c =
     let at = c .before .before in
     let s = at .before .before .before .before .before .before .before .before .before in
     let v = s .args .t1 in
     let l = at .before .loop in
-    walk-start v (s .args .stacks .now) (widerBy (s .args .first .0)) (countNeed (v .order)) (l .k) (s .pre .0) (there at) (l .places) (l .depths) (l .inv)
-
-cast-bump : tie.Need-cast-bump Inv-loop2 μ-loop2 Inv-loop μ-loop
-cast-bump c =
-    let w = c .before .before .before .before .before .before .before .before in
-    let a = w .before .before .before .before .before .before .before .before .before .before .before .before .args in
-    let y = getD (a .stacks .now) (w .before .before .before .before .loop .k * a .t1 .order .room + w .loop2 .i) 0 in
-    omega (arith, trailing-le 32 (bitXor (w .before .before .wider .result .0) y))
+    walk-start v (s .args .stacks .now) (widerBy (s .args .first .0)) (countNeed (v .order)) (l .k) (s .pre .0) (there at) (l .places) (l .depths)
+    (l .inv)
 
 bump-requires : tie.Need-bump-requires Inv-loop2 μ-loop2 Inv-loop μ-loop
 bump-requires c κs =
@@ -94,7 +92,9 @@ bump-requires c κs =
     let f = s .pre .0 in
     let l = w .loop2 in
     let rows = at .before .before .rows .ensures in
-    let small = count-small v (s .args .stacks .now) (widerBy (s .args .first .0)) (countNeed (v .order)) (at .before .loop .k) f (there at) (l .i) (l .depths) (l .inv) in
+    let small =
+    count-small v (s .args .stacks .now) (widerBy (s .args .first .0)) (countNeed (v .order)) (at .before .loop .k) f (there at) (l .i) (l .depths)
+    (l .inv) in
     (omega (arith, rows, inside at, f .numbers, l .inv .long), λ j g. omega (arith, small j (omega (arith, rows, g)), inside at, l .inv .inside))
 
 loop2-again : tie.Need-loop2-again Inv-loop2 μ-loop2 Inv-loop μ-loop
@@ -111,7 +111,8 @@ loop2-again c =
     let l = w .loop2 in
     let y = getD (a .stacks .now) (k * v .order .room + l .i) 0 in
     let bumped =
-    subst₂ (λ (r z : ℕ). Bumped (k * 15) r (trailingZeros 32 (bitXor z y)) (l .depths) (call .last .0)) (at .before .before .rows .ensures) (x .ensures) (call .ensures) in
+    subst₂ (λ (r z : ℕ). Bumped (k * 15) r (trailingZeros 32 (bitXor z y)) (l .depths) (call .last .0)) (at .before .before .rows .ensures)
+    (x .ensures) (call .ensures) in
     walk-on v (a .stacks .now) (widerBy (a .first .0)) (countNeed (v .order)) k (s .pre .0) (there at) (l .i) (l .depths) (l .inv) (call .last .0)
     (other .before .before .before .before .if1 .left) (λ e. other .if2 .left (e ∙ sym (x .ensures))) (call .kept .0) bumped
 
@@ -170,9 +171,10 @@ look-spec =
     (λ c. omega (arith, inside (c .before .before .before .before), c .if1 .left))
     (λ c. omega (arith, inside (c .before .before .before .before .before), c .before .if1 .left))
     (λ c. omega (arith, inside (c .before .before .before .before .before .before .before .before .before .before .before)))
-    cast-bump
+    (λ c. record { fits = few-zeros _ })
     bump-requires
-    (λ c. let other = c .before .before .before .before .before .before in omega (arith, inside (other .before .before .before .before .before .before .before .before), other .before .before .before .before .if1 .left))
+    (λ c. let other = c .before .before .before .before .before .before in omega
+    (arith, inside (other .before .before .before .before .before .before .before .before), other .before .before .before .before .if1 .left))
     (λ c. omega (arith, c .before .before .before .before .before .before .before .before .before .before .if1 .left))
     loop2-again
     (λ c. omega (arith, inside (c .before .before .before .before .before), left (c .before) .inside))

@@ -1,11 +1,10 @@
 -- `misses` meets its contract: refused early, refused by the hits, or given. Assumes nothing.
-use Prim.Native.Nat.{ℕ, _+_, _-_, _*_, _≤_, _<_}
+use Prim.Native.Nat.{ℕ, _+_, _-_, _*_, _≤_}
 use mathlib.Core.Path.{_≡_, sym, ap, _∙_}
 use native.Mathlib.Omega.{arith}
 use lib.ListN.{length, getD}
 use borrow.Author.Needs.{needs}
 use Rattle.lists.specs.Sums.{sumTo}
-use Rattle.order.specs.Limits.{rows as rowsOf}
 use Rattle.order.proofs.LimitLaws.{needs-small}
 use Rattle.taking.specs.Questions.{hitsOf}
 use Rattle.taking.proofs.QuestionLaws.{Asked, asked-of, misses-refused, misses-over, misses-given, hits-at-places, places-fit}
@@ -74,9 +73,9 @@ returns-3 : tie.Need-returns-3
 returns-3 c =
     let passed = c .before .before .before .before .before .before .before .before in
     let a = passed .before .before .before .args in
-    rw (hits (c .before))
-    (misses-given (a .self) (a .counts .now) (a .b .0) (a .s) (a .w) (sym (passed .before .unasked .ensures) ∙ passed .if1 .left)
-    (rw (← hits (c .before)) (c .if2 .left)))
+    ap (λ (n : ℕ). record { state = a .self; answer = 0; misses = a .self .taken - n }) (hits (c .before))
+    ∙ misses-given (a .self) (a .counts .now) (a .b .0) (a .s) (a .w) (sym (passed .before .unasked .ensures) ∙ passed .if1 .left)
+    (rw (← hits (c .before)) (c .if2 .left))
 
 -- closed by search
 pub misses-spec : {M : Type 1} → statement M

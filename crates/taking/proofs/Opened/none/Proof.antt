@@ -1,5 +1,5 @@
 -- `Opened::none` meets its contract: the order is one of zeros. Assumes nothing.
-use mathlib.Core.Path.{_≡_, ap}
+use mathlib.Core.Path.{ap}
 use Rattle.taking.specs.Opening.{fresh}
 use borrow.Author.Needs.{needs}
 use Rattle.taking.proofs.Opened.none.Statement.{statement}

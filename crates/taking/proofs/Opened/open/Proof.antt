@@ -7,9 +7,9 @@ use lib.Dec.{ltb}
 use lib.ListN.{length}
 use borrow.Author.Needs.{needs}
 use Rattle.lists.specs.Tables.{zeroed}
-use Rattle.order.specs.Limits.{within, stackNeed, countNeed, zeroOrder}
+use Rattle.order.specs.Limits.{within, stackNeed, countNeed}
 use Rattle.order.proofs.LimitLaws.{within-no, within-test}
-use Rattle.taking.specs.World.{World, world}
+use Rattle.taking.specs.World.{world}
 use Rattle.taking.specs.Opening.{fresh, unopened}
 use Rattle.taking.specs.declared.Opened.{Opened}
 use Rattle.taking.proofs.NeedLaws.{short-of, long-of}
@@ -26,12 +26,14 @@ need : (c : tie.After-count-need) → c .count-need .result ≡ countNeed (c .be
 need c = c .count-need .ensures ∙ simp (fits (c .before .before))
 
 long : (c : tie.Else2)
-    → (let a = c .before .before .before .before .before .before .before .before .args in ltb (length (a .stacks .now)) (stackNeed (a .order)) ≡ false)
+    → (let a = c .before .before .before .before .before .before .before .before .args in ltb (length (a .stacks .now)) (stackNeed (a .order))
+    ≡ false)
 long c = long-of (c .before .before .stack-need .ensures) (c .if2 .left)
 
 -- zeros beside a refusal, over the tables as they were
 none-opened : (c : tie.After-none)
-    → (let a = c .before .before .before .args in world (c .none .result) (a .stacks .now) (a .counts .now) ≡ unopened (a .stacks .now) (a .counts .now))
+    → (let a = c .before .before .before .args in world (c .none .result) (a .stacks .now) (a .counts .now) ≡ unopened (a .stacks .now)
+    (a .counts .now))
 none-opened c =
     let a = c .before .before .before .args in
     ap (λ (x : Opened). world x (a .stacks .now) (a .counts .now)) (c .none .ensures)

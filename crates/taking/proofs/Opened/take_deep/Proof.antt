@@ -1,22 +1,22 @@
 -- `take_deep` meets its contract: what the walks found is the page's, so the tests are, and what is raised and moved. Assumes nothing.
-use Prim.Native.Nat.{ℕ, _+_, _≤_, _<_}
+use Prim.Native.Nat.{ℕ, _+_, _≤_}
 use mathlib.Core.Path.{_≡_, refl, sym, ap, ap₂, _∙_, subst, subst₂}
-use mathlib.Core.Bool.{Bool, true, false}
+use mathlib.Core.Bool.{true, false}
 use mathlib.Core.List.{List}
 use native.Mathlib.Omega.{arith}
 use lib.Dec.{leb}
-use lib.ListN.{length, getD, replicate}
+use lib.ListN.{length, getD}
 use borrow.Author.Needs.{needs}
 use Rattle.lists.specs.Tables.{raisedGroups, overGroups}
 use Rattle.lists.specs.Tests.{anyTo}
 use Rattle.cache.specs.Cache.{blockOf}
 use Rattle.order.specs.Limits.{sizes as sizesOf, rows as rowsOf}
-use Rattle.taking.specs.Places.{blockAt}
-use Rattle.taking.specs.Plain.{fullAt, overAll}
+use Rattle.taking.specs.Places.{blockAt, fullAt}
+use Rattle.taking.specs.Plain.{overAll}
 use Rattle.taking.specs.Parts.{countMost, Looked, Tabled, AllMoved, widerBy, foundBy, deepBy}
-use Rattle.taking.specs.declared.Opened.{Opened}
 use Rattle.taking.proofs.NeedLaws.{fit-walk, grid-of}
-use Rattle.taking.proofs.OutcomeLaws.{answer-late, refused, done, same-blocks, full-is, over-is, counts-is, falling-of, raisable-of, room-of, getD-zeros}
+use Rattle.taking.proofs.OutcomeLaws.{answer-late, refused, done, same-blocks, getD-zeros}
+use Rattle.taking.proofs.OutcomeLaws.{full-is, over-is, counts-is, falling-of, raisable-of, room-of}
 use Rattle.taking.proofs.Opened.take_deep.Statement.{statement}
 use Rattle.taking.proofs.Opened.take_deep.Tie as tie
 
@@ -74,18 +74,21 @@ full-at : (c : tie.After-is-full) (a : ℕ) → (let b = start (c .before .befor
 full-at c a e =
     let at = c .before .before .before .before in
     let b = start at .args in
-    sym (full c ∙ full-is (b .self) (b .stacks .now) (blockAt (b .self) a) (length (b .counts .now)) (placesOf at) (depthsOf at) (start at .pre .0) (seen at a e))
+    sym (full c ∙ full-is (b .self) (b .stacks .now) (blockAt (b .self) a) (length (b .counts .now)) (placesOf at) (depthsOf at) (start at .pre .0)
+    (seen at a e))
 
 over : (c : tie.After-is-over)
     → (let at = c .before .before .before .before .before .before .before .before .before .before in let v = start at .args .self in
     c .is-over .result
-    ≡ overGroups (v .order .ways) (rowsOf (v .order)) (foundBy (v .used) (placesOf at)) (deepBy (depthsOf at)) (v .taken) (sizesOf (v .order)) (start at .args .counts .now))
+    ≡ overGroups (v .order .ways) (rowsOf (v .order)) (foundBy (v .used) (placesOf at)) (deepBy (depthsOf at)) (v .taken) (sizesOf (v .order))
+    (start at .args .counts .now))
 over c =
     let at = c .before .before .before .before .before .before .before .before .before .before in
     let v = start at .args .self in
     let rows = at .before .before .before .before .before .before .before in
     c .is-over .ensures
-    ∙ ap₂ (λ (n r : ℕ). overGroups (v .order .ways) r (foundBy (v .used) (placesOf at)) (deepBy (depthsOf at)) (v .taken) n (start at .args .counts .now))
+    ∙ ap₂ (λ (n r : ℕ). overGroups (v .order .ways) r (foundBy (v .used) (placesOf at)) (deepBy (depthsOf at)) (v .taken) n
+    (start at .args .counts .now))
     (rows .before .sizes .ensures) (rows .rows .ensures)
 
 over-at : (c : tie.After-is-over) (a : ℕ)
@@ -95,7 +98,8 @@ over-at : (c : tie.After-is-over) (a : ℕ)
 over-at c a e =
     let at = c .before .before .before .before .before .before .before .before .before .before in
     let b = start at .args in
-    sym (over c ∙ over-is (b .self) (b .stacks .now) (blockAt (b .self) a) (length (b .counts .now)) (placesOf at) (depthsOf at) (start at .pre .0) (seen at a e) (b .counts .now))
+    sym (over c ∙ over-is (b .self) (b .stacks .now) (blockAt (b .self) a) (length (b .counts .now)) (placesOf at) (depthsOf at) (start at .pre .0)
+    (seen at a e) (b .counts .now))
 
 -- ---- what the calls require
 
@@ -125,8 +129,11 @@ raise-all-requires c κs =
     let f = start at .pre .0 in
     let none = sym (over call) ∙ c .before .before .before .before .if2 .left in
     let small : v .taken ≤ countMost = omega (arith, f .numbers, f .ceiling) in
-    rw (rows .before .sizes .ensures, rows .rows .ensures)
-    (tabled at, raisable-of (sizesOf (v .order)) (rowsOf (v .order)) (v .order .ways) (v .taken) (start at .args .counts .now) (foundBy (v .used) (placesOf at)) (deepBy (depthsOf at)) small none)
+    rw (rows .before .sizes .ensures, rows .rows .ensures) (
+      tabled at,
+      raisable-of (sizesOf (v .order)) (rowsOf (v .order)) (v .order .ways) (v .taken) (start at .args .counts .now)
+          (foundBy (v .used) (placesOf at)) (deepBy (depthsOf at)) small none,
+    )
 
 move-all-requires : tie.Need-move-all-requires
 move-all-requires c κs =
@@ -136,8 +143,14 @@ move-all-requires c κs =
     let sizes = at .before .before .before .before .before .before .before .before .sizes .ensures in
     let none = sym (full (passed .before)) ∙ passed .if1 .left in
     rw sizes
-    (room-of (b .self) (b .stacks .now) (widerBy (b .first .0)) (length (b .counts .now)) (placesOf at) (depthsOf at) (start at .pre .0) (at .look .ensures)
+    (room-of (b .self) (b .stacks .now) (widerBy (b .first .0)) (length (b .counts .now)) (placesOf at) (depthsOf at) (start at .pre .0)
+    (at .look .ensures)
     (eight at) (at .look .kept .1 .1 .1 .0) none)
+
+move-all-used : tie.Need-slice-aggregate-move-all
+move-all-used c =
+    let passed = c .before .before .before .before .before .before .before .before .before .before .before .before .before .before .before in
+    sym (eight (passed .before .before .before .before .before))
 
 -- one reference more is within 32 bits
 add-taken : tie.Need-add-t47
@@ -155,7 +168,8 @@ returns c =
     let b = start at .args in
     λ a e.
     refused (b .self) (b .stacks .now) (b .counts .now) a 6
-    (sym (answer-late (b .self) (b .stacks .now) (b .counts .now) a (start at .pre .0) (start at .pre .1) true _ (full-at (c .before) a e ∙ c .if1 .taken) refl))
+    (sym (answer-late (b .self) (b .stacks .now) (b .counts .now) a (start at .pre .0) (start at .pre .1) true _
+    (full-at (c .before) a e ∙ c .if1 .taken) refl))
     (λ z. omega arith)
 
 returns-2 : tie.Need-returns-2
@@ -189,9 +203,11 @@ returns-3 c =
     (rows .before .sizes .ensures) x (moved .move-all .ensures) in
     let counts =
     raised .raise-all .ensures
-    ∙ ap₂ (λ (n r : ℕ). raisedGroups (v .order .ways) r (foundBy (v .used) (placesOf at)) (deepBy (depthsOf at)) n ct) (rows .before .sizes .ensures) (rows .rows .ensures)
+    ∙ ap₂ (λ (n r : ℕ). raisedGroups (v .order .ways) r (foundBy (v .used) (placesOf at)) (deepBy (depthsOf at)) n ct) (rows .before .sizes .ensures)
+    (rows .rows .ensures)
     ∙ counts-is v st (blockAt v a) (length ct) (placesOf at) (depthsOf at) f (seen at a e) ct in
-    done v st ct a (record { order = v .order; taken = v .taken + 1; used = moved .move-all .last .1 .0 }) (moved .move-all .last .0) (raised .raise-all .last .0) f
+    done v st ct a (record { order = v .order; taken = v .taken + 1; used = moved .move-all .last .1 .0 }) (moved .move-all .last .0)
+    (raised .raise-all .last .0) f
     (answer-late v st ct a f (start at .pre .1) false false (full-at (passed .before) a e ∙ passed .if1 .left) (over-at call a e ∙ under .if2 .left))
     (ap (λ (u : List ℕ). record { order = v .order; taken = v .taken + 1; used = u }) (all .used)) (all .stacks) counts
 
@@ -222,7 +238,7 @@ take-deep-spec =
     (λ c. search needs)
     (λ c. search needs)
     raise-all-requires
-    (λ c. sym (eight (c .before .before .before .before .before .before .before .before .before .before .before .before .before .before .before .before .before .before .before .before)))
+    move-all-used
     (λ c. search needs)
     move-all-requires
     add-taken

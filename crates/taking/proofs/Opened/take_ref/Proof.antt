@@ -1,6 +1,6 @@
 -- `take_ref` meets its contract: refusals 1 to 5, then the quick way or the other. Assumes nothing.
-use Prim.Native.Nat.{ℕ, _<_}
-use mathlib.Core.Path.{_≡_, sym, ap, _∙_}
+use Prim.Native.Nat.{_<_}
+use mathlib.Core.Path.{sym, ap, _∙_}
 use lib.ListN.{length}
 use borrow.Author.Needs.{needs}
 use Rattle.taking.specs.Parts.{Fit, onTop}
@@ -23,7 +23,8 @@ returns c =
     let st = a .stacks .now in
     let ct = a .counts .now in
     let call = c .before .early in
-    refused (a .self) st ct (a .a .0) (call .result) (answer-early (a .self) st ct (a .a .0) (call .result) (call .ensures) (c .if1 .taken)) (c .if1 .taken)
+    refused (a .self) st ct (a .a .0) (call .result) (answer-early (a .self) st ct (a .a .0) (call .result) (call .ensures) (c .if1 .taken))
+    (c .if1 .taken)
 
 is-on-top-requires : tie.Need-is-on-top-requires
 is-on-top-requires c κs = fit-walk _ _ _ (fit (c .before .before) .0)

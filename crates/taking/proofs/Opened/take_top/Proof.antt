@@ -1,8 +1,7 @@
 -- `take_top` meets its contract: the first count of every row is looked at, and goes up. Assumes nothing.
-use Prim.Native.Nat.{ℕ, _+_, _*_, _<_, _≤_}
-use mathlib.Core.Path.{_≡_, refl, sym, ap, ap₂, _∙_}
-use mathlib.Core.Bool.{Bool, true, false}
-use mathlib.Core.List.{List}
+use Prim.Native.Nat.{ℕ, _+_, _*_, _≤_}
+use mathlib.Core.Path.{_≡_, sym, ap, ap₂, _∙_}
+use mathlib.Core.Bool.{true, false}
 use native.Mathlib.Omega.{arith}
 use lib.Dec.{leb}
 use lib.ListN.{length, getD}
@@ -11,7 +10,6 @@ use Rattle.lists.specs.Tables.{raisedRows}
 use Rattle.lists.specs.Tests.{anyTo}
 use Rattle.order.specs.Limits.{sizes as sizesOf, rows as rowsOf, stackNeed}
 use Rattle.taking.specs.Places.{blockAt}
-use Rattle.taking.specs.Parts.{Fit}
 use Rattle.taking.proofs.NeedLaws.{needs-few}
 use Rattle.taking.proofs.OutcomeLaws.{answer-late, refused, done}
 use Rattle.taking.proofs.TopLaws.{top-full, top-over, top-counts, top-stacks, top-state, top-small}

@@ -1,5 +1,5 @@
 -- `bump` meets its contract: the depths up to s have gone up by one, and the others are as they were. Assumes nothing.
-use Prim.Native.Nat.{ℕ, _≤_, _<_, _-_, _+_, min}
+use Prim.Native.Nat.{_≤_, _-_, _+_, min}
 use mathlib.Core.Path.{_≡_, refl}
 use mathlib.Core.Logic.{⊎-elim}
 use native.Mathlib.Omega.{arith}
@@ -10,7 +10,8 @@ use Rattle.taking.proofs.counting.bump.Statement.{statement}
 use Rattle.taking.proofs.counting.bump.Tie as tie
 
 abbrev Inv-loop : tie.InvT-loop
-Inv-loop depths₀ base rows shared end s₀ depths s = (end ≡ min rows (shared + 1)) × (s ≤ end) × (length depths ≡ length depths₀) × Bumping base s depths₀ depths
+Inv-loop depths₀ base rows shared end s₀ depths s =
+    (end ≡ min rows (shared + 1)) × (s ≤ end) × (length depths ≡ length depths₀) × Bumping base s depths₀ depths
 
 abbrev μ-loop : tie.MeasureT-loop
 μ-loop depths₀ base rows shared end s₀ depths s = end - s

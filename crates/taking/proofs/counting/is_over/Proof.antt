@@ -38,7 +38,8 @@ size-over-requires c κs =
     let l = c .before .before .before .before in
     let s = l .before .before .before .before .before in
     let a = s .args in
-    rows-of (a .sizes) (a .rows) (a .ways) (length (a .counts .now)) (l .loop .k) (a .used .now) (a .places .now) (a .depths .now) (s .pre) (omega arith)
+    rows-of (a .sizes) (a .rows) (a .ways) (length (a .counts .now)) (l .loop .k) (a .used .now) (a .places .now) (a .depths .now) (s .pre)
+    (omega arith)
 
 returns : tie.Need-returns Inv-loop μ-loop
 returns c =

@@ -48,8 +48,11 @@ cell : (c : tie.Then2 Inv-loop μ-loop Inv-loop2 μ-loop2)
 cell c =
     let l = c .before .before .before .before in
     let a = l .before .args in
-    let r = a .first + l .loop .s in
-    (row-le r (a .ways) (omega arith), cell-in (a .ways) r (a .first + a .rows) (depthFrom (a .at) (a .depths .now) (l .loop .s)) (omega arith) (c .if2 .taken))
+    let r = a .first + l .loop .s in (
+      row-le r (a .ways) (omega arith),
+      cell-in (a .ways) r (a .first + a .rows) (depthFrom (a .at) (a .depths .now) (l .loop .s)) (omega arith)
+          (c .if2 .taken),
+    )
 
 top : (c : tie.In-loop2 Inv-loop μ-loop Inv-loop2 μ-loop2)
     → (let a = c .before .before .before .before .args in let r = a .first + c .before .loop2 .s in

@@ -5,7 +5,7 @@ use mathlib.Core.Bool.{Bool}
 use mathlib.Core.List.{List}
 use mathlib.Core.Logic.{⊎-elim}
 use native.Mathlib.Omega.{arith}
-use lib.ListN.{length, getD}
+use lib.ListN.{length}
 use borrow.Author.Needs.{needs}
 use borrow.Author.Tests.{lt-ltb, le-ltb}
 use Rattle.lists.specs.Tables.{raisedGroups}
@@ -45,9 +45,12 @@ raise-requires c κs =
     let d = deepBy (a .depths .now) in
     let at : ℕ → ℕ = λ j. (k * a .rows + j) * a .ways + d k j in (
       rw (l .loop .inv .long)
-          (rows-of (a .sizes) (a .rows) (a .ways) (length (a .counts .now)) k (a .used .now) (a .places .now) (a .depths .now) (s .pre .0) (omega arith)),
+          (rows-of (a .sizes) (a .rows) (a .ways) (length (a .counts .now)) k (a .used .now) (a .places .now) (a .depths .now) (s .pre .0)
+          (omega arith)),
       λ j h g.
-          let past = groups-past (a .ways) (a .rows) f d k (a .counts .now) (at j) (omega (arith, rows-le (k * a .rows) (k * a .rows + j) (a .ways) (omega arith))) in
+          let past =
+          groups-past (a .ways) (a .rows) f d k (a .counts .now) (at j)
+          (omega (arith, rows-le (k * a .rows) (k * a .rows + j) (a .ways) (omega arith))) in
           rw (l .loop .inv .done, past) (s .pre .1 k (omega arith) (lt-ltb _ _ (c .before .if1 .taken)) j h g),
     )
 
@@ -64,7 +67,8 @@ loop-again c =
       long = ap length (y .5) ∙ y .2 .kept .0 ∙ at .inv .long;
       done =
           y .5
-          ∙ groups-yes (a .ways) (a .rows) f d (at .k) (a .counts .now) (at .counts) (y .2 .last .0) (at .inv .done) (lt-ltb _ _ (y .0 .taken)) (y .2 .ensures);
+          ∙ groups-yes (a .ways) (a .rows) f d (at .k) (a .counts .now) (at .counts) (y .2 .last .0) (at .inv .done) (lt-ltb _ _ (y .0 .taken))
+          (y .2 .ensures);
     })
     (λ y. record {
       upto = omega arith;

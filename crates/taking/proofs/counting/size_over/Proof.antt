@@ -2,7 +2,6 @@
 use Prim.Native.Nat.{ℕ, _≤_, _<_, _-_, _+_, _*_}
 use mathlib.Core.Path.{_≡_, sym, _∙_}
 use mathlib.Core.Bool.{Bool, false}
-use mathlib.Core.List.{List}
 use mathlib.Core.Logic.{⊎-elim}
 use native.Mathlib.Omega.{arith}
 use borrow.Author.Needs.{needs}
@@ -42,8 +41,11 @@ cell : (c : tie.Then2 Inv-loop μ-loop Inv-loop2 μ-loop2)
 cell c =
     let l = c .before .before .before .before in
     let a = l .before .args in
-    let r = a .first + l .loop .s in
-    (row-le r (a .ways) (omega arith), cell-in (a .ways) r (a .first + a .rows) (depthFrom (a .at) (a .depths .now) (l .loop .s)) (omega arith) (c .if2 .taken))
+    let r = a .first + l .loop .s in (
+      row-le r (a .ways) (omega arith),
+      cell-in (a .ways) r (a .first + a .rows) (depthFrom (a .at) (a .depths .now) (l .loop .s)) (omega arith)
+          (c .if2 .taken),
+    )
 
 top : (c : tie.In-loop2 Inv-loop μ-loop Inv-loop2 μ-loop2)
     → (let a = c .before .before .before .before .args in let r = a .first + c .before .loop2 .s in

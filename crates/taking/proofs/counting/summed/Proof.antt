@@ -1,9 +1,9 @@
 -- `summed` meets its contract: after d turns the sum is that of the first d counts, and each is below 2^32. Assumes nothing.
 use Prim.Native.Nat.{ℕ, _≤_, _-_, _+_, _*_}
-use mathlib.Core.Path.{_≡_, refl, sym, ap, _∙_}
+use mathlib.Core.Path.{_≡_, ap, _∙_}
 use native.Mathlib.Omega.{arith}
 use native.Mathlib.Numerals.{add-one}
-use lib.ListN.{length, getD}
+use lib.ListN.{getD}
 use Rattle.lists.specs.Sums.{sumTo}
 use borrow.Author.Needs.{needs}
 use Rattle.taking.proofs.counting.summed.Statement.{statement}

@@ -27,7 +27,7 @@ abbrev μ-loop : tie.MeasureT-loop
 
 -- the row is in the table
 inside : (c : tie.In-loop Inv-loop μ-loop)
-    → c .before .loop .s * c .before .before .args .ways + c .before .before .args .ways ≤ c .before .before .args .rows * c .before .before .args .ways
+    → (let a = c .before .before .args in c .before .loop .s * a .ways + a .ways ≤ a .rows * a .ways)
 inside c = row-in (c .before .loop .s) (c .before .before .args .rows) (c .before .before .args .ways) (omega arith)
 
 loop-again : tie.Need-loop-again Inv-loop μ-loop

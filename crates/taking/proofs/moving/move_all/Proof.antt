@@ -8,7 +8,7 @@ use borrow.Author.Needs.{needs}
 use Rattle.lists.specs.Members.{above}
 use Rattle.lists.specs.Tables.{part, writeAt, writtenRows, setLengths}
 use Rattle.lists.proofs.PartLaws.{row-in, rows-none, rows-more, lengths-none, lengths-more, lengths-past}
-use Rattle.taking.specs.Parts.{widerBy, toppedAt, toppedBy, Stopped}
+use Rattle.taking.specs.Parts.{widerBy, toppedAt, toppedBy}
 use Rattle.taking.proofs.MoveLaws.{roomy-of, part-same, topped-same}
 use Rattle.taking.proofs.moving.move_all.Statement.{statement}
 use Rattle.taking.proofs.moving.move_all.Tie as tie
@@ -116,7 +116,8 @@ cast-used c =
     let s = at .before .before .before .before .before in
     let a = s .args in
     let h : at .before .loop .k < a .sizes = at .loop-test .taken in
-    let roomy = roomy-of (a .sizes) (a .room) (widerBy (a .first .0)) (a .stacks .now) (a .used .now) (a .places .now) (s .pre) (at .before .loop .k) h in
+    let roomy =
+    roomy-of (a .sizes) (a .room) (widerBy (a .first .0)) (a .stacks .now) (a .used .now) (a .places .now) (s .pre) (at .before .loop .k) h in
     omega (arith, moved call .1, s .pre .small)
 
 loop-again : tie.Need-loop-again Inv-loop μ-loop
@@ -160,7 +161,12 @@ move-all-spec =
     (λ c. omega (arith, inside (c .before .before)))
     (λ c. search needs)
     (λ c. search needs)
-    (λ c. omega (arith, kept (c .before .before .before), c .before .before .before .before .before .before .before .before .pre .used (c .before .before .before .before .loop .k) (c .before .before .before .loop-test .taken)))
+    (λ c. omega (
+      arith,
+      kept (c .before .before .before),
+      c .before .before .before .before .before .before .before .before .pre .used
+          (c .before .before .before .before .loop .k) (c .before .before .before .loop-test .taken),
+    ))
     (λ c. search needs)
     (λ c. search needs)
     (λ c. omega (arith, c .shared-slice-known2 .given (c .before .before .before .before .before .loop .k)))

@@ -1,7 +1,6 @@
 -- `Addr::block` meets its contract: a shift divides by the power, and shifts by 32 places and more leave nothing. Assumes nothing.
 use borrow.Author.Needs.{needs}
-use mathlib.Core.Path.{_≡_, refl, sym}
-use Prim.Native.Nat.{_<_}
+use mathlib.Core.Path.{refl, sym}
 use native.Mathlib.Omega.{arith}
 use Rattle.cache.specs.Cache.{blockOf}
 use Rattle.units.proofs.BitLaws.{shifted-out}

@@ -1,7 +1,7 @@
 -- `BlockNo::set` meets its contract: a one shifted by s places is 2^s, and modulo 2^32 and more a number of 32 bits stays. Assumes nothing.
 use borrow.Author.Needs.{needs}
-use mathlib.Core.Path.{_≡_, refl, sym, ap}
-use Prim.Native.Nat.{ℕ, _<_, _%_}
+use mathlib.Core.Path.{sym, ap}
+use Prim.Native.Nat.{ℕ, _%_}
 use native.Mathlib.Omega.{arith}
 use lib.Pow.{pow-pos}
 use Rattle.cache.specs.Cache.{setOf}
@@ -13,7 +13,7 @@ shl-t6 : tie.Need-shl-t6
 shl-t6 c = search needs
 
 rem-t7 : tie.Need-rem-t7
-rem-t7 c = let s = c .before .args .s in rw (bit s (c .if1 .taken)) (pow-pos s)
+rem-t7 c = let s = c .before .args .s in omega (arith, bit s (c .if1 .taken), pow-pos s)
 
 returns : tie.Need-returns
 unfolding setOf
