@@ -1,11 +1,10 @@
 -- What the contracts and the laws of runs come to, put as the claims say it. Assumes nothing.
-use Prim.Native.Nat.{ℕ, _+_, _^_}
-use mathlib.Core.Path.{_≡_, refl, sym, ap, _∙_, subst}
+use Prim.Native.Nat.{ℕ}
+use mathlib.Core.Path.{_≡_, sym, ap, _∙_, subst}
 use mathlib.Core.Bool.{Bool, true, false, cond}
-use mathlib.Core.List.{List, _++_}
+use mathlib.Core.List.{List}
 use lib.Dec.{eqb}
 use native.Mathlib.Omega.{arith}
-use Rattle.lists.specs.Tests.{anyTo}
 use Rattle.cache.specs.Cache.{Given, missesOver}
 use Rattle.order.specs.declared.Order.{Order}
 use Rattle.taking.specs.World.{World}

@@ -1,3 +1,4 @@
+pub mod BitLaws
 pub mod Cases
 pub mod CutLaws
 pub mod MemberLaws
@@ -7,4 +8,5 @@ pub mod RaiseLaws
 pub mod RunLaws
 pub mod SumLaws
 pub mod TestLaws
+pub mod WriteLaws
 pub mod ZeroLaws
