@@ -12,7 +12,7 @@ use Rattle.lists.specs.Members.{mem}
 use Rattle.lists.specs.Runs.{answers, after}
 use Rattle.lists.specs.Sums.{total, sumTo}
 use Rattle.lists.proofs.Cases.{cases}
-use Rattle.lists.proofs.SumLaws.{total-ext, total-add, total-zero, total-map, total-answers, total-one-more}
+use Rattle.lists.proofs.SumLaws.{total-ext, total-add, total-zero, total-map, total-answers}
 use Rattle.cache.specs.Cache.{setOf, Event, touch, Answer, hit, miss, missed, touched, Sets, simulate, cacheStep, cacheAnswer, emptySets}
 use Rattle.cache.specs.Stack.{stackStep, stackPlace, depth, Place, at, new, places, verdict, atDepth}
 use Rattle.cache.proofs.StackLaws.{one-stack}

@@ -1,36 +1,24 @@
 -- One stack serves every cache: each set of a cache holds the first w blocks of the stack that are of that set,
 -- so the depth tells hit from miss. All of demands 2 and 3 rests on `holds-step` and `holds-answer`. Assumes nothing.
-use Prim.Native.Nat.{ℕ, zero, suc, _+_, _≤_, _<_}
-use mathlib.Core.Path.{_≡_, refl, sym, ap, _∙_}
-use mathlib.Core.Bool.{Bool, true, false, cond, true≢false, false≢true}
+use Prim.Native.Nat.{ℕ, zero, suc}
+use mathlib.Core.Path.{_≡_, refl, sym}
 use mathlib.Core.List.{List, [], _∷_, map}
-use lib.Dec.{eqb, ltb}
-use lib.ListN.{take, length}
+use lib.Dec.{eqb}
+use lib.ListN.{take}
 use lib.Seq.{take-nil}
-use borrow.Author.Tests.{eqb-true, eq-eqb}
+use borrow.Author.Tests.{eq-eqb}
 use Rattle.lists.specs.Members.{mem, remove, keep}
 use Rattle.lists.specs.Runs.{after}
 use Rattle.lists.proofs.Cases.{cases}
-use Rattle.lists.proofs.MemberLaws.{keep-remove, keep-remove-other, mem-take-keep}
+use Rattle.lists.proofs.MemberLaws.{keep-remove, keep-remove-other, mem-take-keep, remove-take, take-remove}
 use Rattle.lists.proofs.RunLaws.{simulates, after-rel}
-use Rattle.cache.specs.Cache.{setOf, Event, touch, Answer, Sets, emptySets, refer, cacheStep, cacheAnswer, simulate}
-use Rattle.cache.specs.Stack.{stackStep, depth, Place, stackPlace, places, verdict}
+use Rattle.cache.specs.Cache.{setOf, Event, touch, Sets, emptySets, refer, cacheStep, cacheAnswer, simulate}
+use Rattle.cache.specs.Stack.{stackStep, stackPlace, places, verdict}
 
 -- a reference to x in a set that holds the first w of a list leaves the first w, after x has gone to the front of the list
-module _ (x : ℕ) where
-  found : (w : ℕ) (l : List ℕ) → mem x (take (suc w) l) ≡ true → remove x (take (suc w) l) ≡ take w (remove x l)
-  found w [] e = sym (take-nil w)
-  found zero (y ∷ ys) e = cases (eqb x y) (λ f. simp f) (λ f. absurd (false≢true (rw f at e)))
-  found (suc w) (y ∷ ys) e = cases (eqb x y) (λ f. simp f) (λ f. simp (f, found w ys (rw f at e)))
-
-  lost : (w : ℕ) (l : List ℕ) → mem x (take (suc w) l) ≡ false → take w (take (suc w) l) ≡ take w (remove x l)
-  lost w [] e = refl
-  lost zero (y ∷ ys) e = refl
-  lost (suc w) (y ∷ ys) e = cases (eqb x y) (λ f. absurd (true≢false (rw f at e))) (λ f. simp (f, lost w ys (rw f at e)))
-
 pub refer-take : (w x : ℕ) (l : List ℕ) → refer w x (take w l) ≡ take w (x ∷ remove x l)
 refer-take zero x l = refl
-refer-take (suc w) x l = cases (mem x (take (suc w) l)) (λ e. simp (e, found x w l e)) (λ e. simp (e, lost x w l e))
+refer-take (suc w) x l = cases (mem x (take (suc w) l)) (λ e. simp (e, remove-take x w l e)) (λ e. simp (e, take-remove x w l e))
 
 module _ (s w : ℕ) where
   -- each set holds the first w blocks of the stack that are of that set

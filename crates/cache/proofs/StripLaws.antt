@@ -1,12 +1,12 @@
 -- What the hits of a direct-mapped cache can be dropped for: demand 3, second and third parts.
 -- The idea: where (s, 1) hits, the block is already the most recent of its set in every cache with at least as many sets,
 -- so dropping the reference changes nothing there. Assumes nothing.
-use Prim.Native.Nat.{ℕ, zero, suc, _+_, _≤_, _<_}
+use Prim.Native.Nat.{ℕ, suc, _≤_}
 use mathlib.Core.Path.{_≡_, refl, sym, ap, _∙_, fun-ext}
-use mathlib.Core.Bool.{Bool, true, false, cond, true≢false, false≢true}
+use mathlib.Core.Bool.{true, false≢true}
 use mathlib.Core.List.{List, [], _∷_, map}
 use native.Mathlib.Omega.{arith}
-use lib.Dec.{eqb, ltb}
+use lib.Dec.{eqb}
 use lib.ListN.{take}
 use borrow.Author.Tests.{eqb-true, eq-eqb}
 use Rattle.lists.specs.Members.{mem, keep}
@@ -18,7 +18,6 @@ use Rattle.lists.proofs.RunLaws.{kept}
 use Rattle.cache.specs.Cache.{blockOf, setOf, Event, touch, Answer, hit, miss, missed, isHit, Sets, emptySets, cacheStep, cacheAnswer, simulate}
 use Rattle.cache.specs.Cache.{refer}
 use Rattle.cache.proofs.SetLaws.{set-fewer}
-use Rattle.cache.proofs.StackLaws.{Holds}
 use Rattle.cache.proofs.InclusionLaws.{HitToo, Both, both-empty, both-step, inclusion}
 
 -- a hit at the front of its set leaves the set as it is

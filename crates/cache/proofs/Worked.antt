@@ -5,8 +5,11 @@ use mathlib.Core.List.{List, [], _∷_, map}
 use Rattle.cache.specs.Cache.{blockOf, setOf, Given, ref, missesOver}
 
 -- the addresses 0, 10, 20, 0, 14, 40, 0, 20 (hex)
+abbrev pub addresses : List ℕ
+addresses = 0x0 ∷ 0x10 ∷ 0x20 ∷ 0x0 ∷ 0x14 ∷ 0x40 ∷ 0x0 ∷ 0x20 ∷ []
+
 abbrev pub trace : List Given
-trace = map ref (0x0 ∷ 0x10 ∷ 0x20 ∷ 0x0 ∷ 0x14 ∷ 0x40 ∷ 0x0 ∷ 0x20 ∷ [])
+trace = map ref addresses
 
 -- the misses at w = 1, 2, 3, 4
 abbrev row : ℕ → ℕ → List ℕ

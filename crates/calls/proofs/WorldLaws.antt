@@ -1,17 +1,17 @@
 -- Block sizes cut out of a world and put back: each is read back as it was put, and every entry that is no size's stays.
 -- Assumes nothing.
-use Prim.Native.Nat.{ℕ, zero, suc, _+_, _-_, _*_, _≤_, _<_}
-use mathlib.Core.Path.{_≡_, refl, sym, ap, ap₂, _∙_}
-use mathlib.Core.Bool.{Bool, true, false, cond}
-use mathlib.Core.List.{List, [], _∷_, _++_}
+use Prim.Native.Nat.{ℕ, _+_, _-_, _*_, _≤_, _<_}
+use mathlib.Core.Path.{_≡_, sym, ap, ap₂, _∙_}
+use mathlib.Core.List.{List}
 use native.Mathlib.Omega.{arith}
-use lib.Dec.{eqb, ltb}
-use lib.ListN.{length, take, drop, getD, replicate, length-append, length-replicate, getD-replicate}
+use lib.Dec.{ltb}
+use lib.ListN.{length, take, drop, getD, replicate, getD-replicate}
 use lib.Seq.{take-append-seam, take-take, getD-append-add}
 use borrow.Author.Tests.{ltb-true, ltb-false}
-use Rattle.lists.specs.Tables.{part, padded, writtenRows, setLengths}
+use Rattle.lists.specs.Tables.{part, padded}
 use Rattle.lists.proofs.Cases.{cases}
-use Rattle.lists.proofs.PartLaws.{row-in, length-part, part-at, length-rows, drop-rows, row-after, entry-after, length-setLengths, setLengths-at}
+use Rattle.lists.proofs.PartLaws.{row-in, length-part, part-at, length-padded, length-rows, drop-rows, row-after, entry-after}
+use Rattle.lists.proofs.PartLaws.{length-setLengths, setLengths-at}
 use Rattle.order.specs.declared.Order.{Order}
 use Rattle.order.specs.Limits.{sizes, span, stackNeed, countNeed}
 use Rattle.sizes.specs.Size.{Size}
@@ -37,9 +37,6 @@ pub record Fitting (w : World) (f : ℕ → Size) : Type 0 where
 
 abbrev size : ℕ → List ℕ → List ℕ → Size
 size n q c = record { total = n; stack = q; counts = c }
-
-length-padded : (n : ℕ) (l : List ℕ) → length (padded n l) ≡ length l + (n - length l)
-length-padded n l = length-append l (replicate (n - length l) 0) ∙ ap (λ (m : ℕ). length l + m) (length-replicate {A = ℕ} (n - length l) 0)
 
 -- the stack of size k as it is put back: what it had used and has no more is zero
 abbrev topOf : World → (ℕ → Size) → ℕ → List ℕ

@@ -5,7 +5,7 @@ use mathlib.Core.Path.{_≡_, ap, _∙_}
 use mathlib.Core.List.{List}
 use lib.ListN.{length}
 use Rattle.lists.specs.Tests.{settled}
-use Rattle.lists.proofs.PartLaws.{listed, listed-all}
+use Rattle.lists.proofs.PartLaws.{readFrom, read-all}
 use Rattle.lists.proofs.TestLaws.{settled-in}
 use Rattle.cache.specs.Cache.{Given}
 use Rattle.order.specs.declared.Order.{Order}
@@ -22,11 +22,11 @@ abbrev pub withUsed : Opened → List ℕ → Opened
 withUsed v u = record { order = v .order; taken = v .taken; used = u }
 
 -- the numbers read one by one
-pub state-read : (l : List ℕ) → length l ≡ 15 → Says l (withUsed (stateOf l) (listed 8 7 l))
-state-read l h = record { state = ap (withUsed (stateOf l)) (listed-all 8 7 l h); numbers-back = listed-all 15 0 l h }
+pub state-read : (l : List ℕ) → length l ≡ 15 → Says l (withUsed (stateOf l) (readFrom 8 7 l))
+state-read l h = record { state = ap (withUsed (stateOf l)) (read-all 8 7 l h); numbers-back = read-all 15 0 l h }
 
-pub numbers-read : (v : Opened) → length (v .used) ≡ 8 → numbersOf (withUsed v (listed 8 0 (v .used))) ≡ numbersOf v
-numbers-read v h = ap (λ (u : List ℕ). numbersOf (withUsed v u)) (listed-all 8 0 (v .used) h)
+pub numbers-read : (v : Opened) → length (v .used) ≡ 8 → numbersOf (withUsed v (readFrom 8 0 (v .used))) ≡ numbersOf v
+numbers-read v h = ap (λ (u : List ℕ). numbersOf (withUsed v u)) (read-all 8 0 (v .used) h)
 
 -- ---- opening
 

@@ -12,7 +12,8 @@ picked P true f g = f refl
 picked P false f g = g refl
 
 -- of two things that the same test picks
-pub both-picked : {A B : Type 0} (P : A → B → Type 0) (b : Bool) {x y : A} {z w : B} → (b ≡ true → P x z) → (b ≡ false → P y w) → P (cond b x y) (cond b z w)
+pub both-picked : {A B : Type 0} (P : A → B → Type 0) (b : Bool) {x y : A} {z w : B} → (b ≡ true → P x z) → (b ≡ false → P y w)
+    → P (cond b x y) (cond b z w)
 both-picked P true f g = f refl
 both-picked P false f g = g refl
 

@@ -2,19 +2,20 @@
 -- Assumes nothing.
 use Prim.Native.Nat.{ℕ, zero, suc, _+_, _*_, _≤_, _<_}
 use mathlib.Core.Path.{_≡_, refl, sym, ap, ap₂, _∙_}
-use mathlib.Core.Bool.{Bool, true, false, cond, _&&_}
-use mathlib.Core.List.{List, [], _∷_}
+use mathlib.Core.Bool.{Bool, cond, _&&_}
+use mathlib.Core.List.{List}
 use native.Mathlib.Nat.{zero-add, suc-mul, add-mul, mul-assoc}
 use native.Mathlib.Omega.{arith}
-use lib.Dec.{eqb, ltb, leb}
+use lib.Dec.{ltb, leb}
 use lib.ListN.{length, take, getD, set}
 use borrow.Author.Tests.{ltb-true}
 use Rattle.lists.specs.Tables.{part, writeAt, writtenRows, raisedRows, raisedGroups, overRow, overGroups}
 use Rattle.lists.specs.Tests.{anyTo}
 use Rattle.lists.proofs.Cases.{cases}
-use Rattle.lists.proofs.PartLaws.{row-in, write-same, write-set, write-at, part-at, length-part, length-rows, drop-rows}
+use Rattle.lists.proofs.PartLaws.{row-in, write-same, part-at, length-part, length-rows, drop-rows}
 use Rattle.lists.proofs.RaiseLaws.{cell-in, length-raised}
 use Rattle.lists.proofs.TestLaws.{any-same}
+use Rattle.lists.proofs.WriteLaws.{write-set, write-at}
 
 module _ (w : ℕ) (d : ℕ → ℕ) (first base len : ℕ) (start : base ≡ first * w) where
   -- where an entry of the part stands in the table
@@ -77,7 +78,8 @@ module _ (w r : ℕ) (f : ℕ → Bool) (d : ℕ → ℕ → ℕ) (l : List ℕ)
       let ih = raised-cut n (omega arith) in
       let same : part (n * (r * w)) (r * w) l ≡ part (n * (r * w)) (r * w) (writtenRows (r * w) cutRaised n l)
       = ap (take (r * w)) (sym (drop-rows (r * w) cutRaised l (suc n) long fits n (omega arith))) in
-      let room : n * (r * w) + r * w ≤ length (writtenRows (r * w) cutRaised n l) = omega (arith, length-rows (r * w) cutRaised l (suc n) long fits n (omega arith)) in
+      let room : n * (r * w) + r * w ≤ length (writtenRows (r * w) cutRaised n l)
+      = omega (arith, length-rows (r * w) cutRaised l (suc n) long fits n (omega arith)) in
       cases (f n)
       (λ e. simp e
       (ap (λ (p : List ℕ). writeAt (n * (r * w)) (raisedRows w 0 (d n) r p) (writtenRows (r * w) cutRaised n l)) same
@@ -90,7 +92,8 @@ module _ (w r : ℕ) (f : ℕ → Bool) (d : ℕ → ℕ → ℕ) (l : List ℕ)
 
   pub over-cut : (c n : ℕ) → anyTo n (λ (k : ℕ). f k && anyTo r (overRow w 0 (d k) c (part (k * (r * w)) (r * w) l))) ≡ overGroups w r f d c n l
   over-cut c n =
-      any-same n (λ (k : ℕ). f k && anyTo r (overRow w 0 (d k) c (part (k * (r * w)) (r * w) l))) (λ (k : ℕ). f k && anyTo r (overRow w (k * r) (d k) c l))
+      any-same n (λ (k : ℕ). f k && anyTo r (overRow w 0 (d k) c (part (k * (r * w)) (r * w) l)))
+      (λ (k : ℕ). f k && anyTo r (overRow w (k * r) (d k) c l))
       (λ k h.
       ap (λ (t : Bool). f k && t)
       (any-same r (overRow w 0 (d k) c (part (k * (r * w)) (r * w) l)) (overRow w (k * r) (d k) c l)

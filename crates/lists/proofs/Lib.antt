@@ -1,3 +1,4 @@
+pub mod BitLaws
 pub mod BoolLaws
 pub mod Cases
 pub mod CutLaws
@@ -11,4 +12,5 @@ pub mod RunLaws
 pub mod SumLaws
 pub mod TestLaws
 pub mod TopRowLaws
+pub mod WriteLaws
 pub mod ZeroLaws

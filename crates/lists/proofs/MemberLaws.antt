@@ -1,14 +1,14 @@
 -- Laws of `mem`, `remove`, `above` and `keep`, in that order; then of `take` beside them.
 -- Assumes nothing.
-use Prim.Native.Nat.{ℕ, zero, suc, _+_, _≤_, _<_}
+use Prim.Native.Nat.{ℕ, zero, suc, _≤_, _<_}
 use mathlib.Core.Path.{_≡_, refl, sym, ap, _∙_}
 use mathlib.Core.Bool.{Bool, true, false, cond, _&&_, _||_, and-false, true≢false, false≢true}
 use mathlib.Core.List.{List, [], _∷_}
 use native.Mathlib.Omega.{arith}
-use lib.Dec.{eqb, ltb, leb, leb·zero, leb·suc-zero, leb·suc-suc}
-use lib.ListN.{take, drop, length, getD}
+use lib.Dec.{eqb, ltb, leb·zero, leb·suc-zero, leb·suc-suc}
+use lib.ListN.{take, length, getD}
 use lib.Seq.{take-nil}
-use borrow.Author.Tests.{eqb-true, eqb-false, eq-eqb, ne-eqb, lt-ltb, le-ltb}
+use borrow.Author.Tests.{eqb-true, eq-eqb}
 use Rattle.lists.specs.Members.{mem, remove, above, keep}
 use Rattle.lists.proofs.Cases.{cases}
 
@@ -33,6 +33,18 @@ length-front x (y ∷ l) =
     cases (eqb x y)
     (λ e. simp e)
     (λ e. cases (mem x l) (λ f. simp (e, f) (ap suc (rw f at ih))) (λ f. simp (e, f) (ap suc (rw f at ih))))
+
+-- ---- the first w of a list, less x, and the first w of the list less x
+
+pub remove-take : (x w : ℕ) (l : List ℕ) → mem x (take (suc w) l) ≡ true → remove x (take (suc w) l) ≡ take w (remove x l)
+remove-take x w [] e = sym (take-nil w)
+remove-take x zero (y ∷ ys) e = cases (eqb x y) (λ f. simp f) (λ f. absurd (false≢true (rw f at e)))
+remove-take x (suc w) (y ∷ ys) e = cases (eqb x y) (λ f. simp f) (λ f. simp (f, remove-take x w ys (rw f at e)))
+
+pub take-remove : (x w : ℕ) (l : List ℕ) → mem x (take (suc w) l) ≡ false → take w (take (suc w) l) ≡ take w (remove x l)
+take-remove x w [] e = refl
+take-remove x zero (y ∷ ys) e = refl
+take-remove x (suc w) (y ∷ ys) e = cases (eqb x y) (λ f. absurd (true≢false (rw f at e))) (λ f. simp (f, take-remove x w ys (rw f at e)))
 
 -- ---- those that pass a test
 

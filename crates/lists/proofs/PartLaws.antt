@@ -1,19 +1,19 @@
--- Laws of `writeAt`, `writtenRows` and `setLengths`: what is read back, and what stays.
--- Assumes nothing.
+-- Laws of parts of a table: `part`, entries read one by one, `padded`; then of rows, `writtenRows` and `setLengths`: what is read back, and
+-- what stays. Not here: one list written over a table (WriteLaws). Assumes nothing.
 use Prim.Native.Nat.{ℕ, zero, suc, _+_, _-_, _*_, _≤_, _<_}
-use mathlib.Core.Path.{_≡_, refl, sym, ap, _∙_, subst}
-use mathlib.Core.Bool.{Bool, true, false, cond}
+use mathlib.Core.Path.{_≡_, refl, sym, ap, _∙_}
 use mathlib.Core.List.{List, [], _∷_, _++_}
-use native.Mathlib.Nat.{suc-mul, mul-le-mul-right, zero-add, suc-add}
+use native.Mathlib.Nat.{suc-mul, mul-le-mul-right}
 use native.Mathlib.Numerals.{add-one}
 use native.Mathlib.Omega.{arith}
 use lib.Dec.{eqb, ltb}
-use lib.ListN.{drop-of-length-le, length, take, drop, getD, set, length-append, length-take, length-drop, length-set, take-append-drop, List·getD-append}
-use lib.Seq.{drop-cons, take-nil, drop-nil, length-take-le, take-append-seam, take-append-le, take-take, drop-append-add, drop-at, drop-drop, take-add}
-use lib.Seq.{getD-take, getD-drop, getD-set-same, getD-set-other, getD-append-add, set-append-left}
+use lib.ListN.{length, take, drop, getD, set, replicate, length-append, length-drop, length-set, length-replicate}
+use lib.ListN.{take-append-drop, drop-of-length-le}
+use lib.Seq.{drop-cons, drop-drop, length-take-le, getD-take, getD-drop, getD-set-same, getD-set-other}
 use borrow.Author.Tests.{eqb-true, eqb-false, ltb-true, ltb-false}
-use Rattle.lists.specs.Tables.{part, writeAt, writtenRows, setLengths}
+use Rattle.lists.specs.Tables.{part, padded, writeAt, writtenRows, setLengths}
 use Rattle.lists.proofs.Cases.{cases}
+use Rattle.lists.proofs.WriteLaws.{length-write, drop-write, read-here, read-before, write-before, write-past}
 
 -- no fewer rows take no less
 pub rows-le : (k n r : ℕ) → k ≤ n → k * r ≤ n * r
@@ -23,54 +23,13 @@ rows-le k n r h = mul-le-mul-right r h
 pub row-in : (k n r : ℕ) → k < n → k * r + r ≤ n * r
 row-in k n r h = omega (arith, suc-mul k r, rows-le (suc k) n r h)
 
--- ---- a list written over a table
+-- ---- parts
 
-pub length-write : (base : ℕ) (p l : List ℕ) → base + length p ≤ length l → length (writeAt base p l) ≡ length l
-unfolding writeAt
-length-write base p l h = simp (length-append, length-take, length-drop) (omega arith)
+pub part-at : (base n : ℕ) (l : List ℕ) (i : ℕ) → i < n → getD (part base n l) i 0 ≡ getD l (base + i) 0
+part-at base n l i h = getD-take n (drop base l) i 0 h ∙ getD-drop base l i 0
 
-drop-over : (p l : List ℕ) (n : ℕ) → length p ≤ n → drop n (p ++ drop (length p) l) ≡ drop n l
-drop-over p l n h =
-    let e : length p + (n - length p) ≡ n = omega arith in
-    subst (λ (m : ℕ). drop m (p ++ drop (length p) l) ≡ drop m l) e
-    (drop-append-add p (drop (length p) l) (n - length p) ∙ drop-drop (n - length p) (length p) l)
-
-drop-base : (base : ℕ) (p l : List ℕ) → base ≤ length l → drop base (writeAt base p l) ≡ p ++ drop (length p) (drop base l)
-unfolding writeAt
-drop-base base p l h = drop-at (take base l) (p ++ drop (length p) (drop base l)) base (length-take-le base l h)
-
-pub drop-write : (base : ℕ) (p l : List ℕ) (n : ℕ) → base ≤ length l → length p ≤ n → drop (base + n) (writeAt base p l) ≡ drop (base + n) l
-drop-write base p l n h f =
-    sym (drop-drop n base (writeAt base p l)) ∙ ap (drop n) (drop-base base p l h) ∙ drop-over p (drop base l) n f ∙ drop-drop n base l
-
-take-drop : (u i : ℕ) (l : List ℕ) → take u (drop i l) ≡ drop i (take (i + u) l)
-take-drop u zero l = rw zero-add
-take-drop u (suc i) [] = simp (take-nil, drop-nil)
-take-drop u (suc i) (x ∷ l) = rw suc-add (take-drop u i l)
-
-pub read-here : (base : ℕ) (p l : List ℕ) → base ≤ length l → take (length p) (drop base (writeAt base p l)) ≡ p
-read-here base p l h = ap (take (length p)) (drop-base base p l h) ∙ take-append-seam p (drop (length p) (drop base l))
-
-pub read-before : (base : ℕ) (p l : List ℕ) (i u : ℕ) → base ≤ length l → i + u ≤ base → take u (drop i (writeAt base p l)) ≡ take u (drop i l)
-unfolding writeAt
-read-before base p l i u h f =
-    take-drop u i (writeAt base p l)
-    ∙ ap (drop i) (take-append-le (i + u) (take base l) (p ++ drop (length p) (drop base l)) (rw (length-take-le base l h) f) ∙ take-take (i + u) base l f)
-    ∙ sym (take-drop u i l)
-
-pub write-before : (base : ℕ) (p l : List ℕ) (i : ℕ) → base ≤ length l → i < base → getD (writeAt base p l) i 0 ≡ getD l i 0
-unfolding writeAt
-write-before base p l i h f =
-    List·getD-append (take base l) (p ++ drop (length p) (drop base l)) 0 i (rw (length-take-le base l h) f) ∙ getD-take base l i 0 f
-
-pub write-past : (base : ℕ) (p l : List ℕ) (i : ℕ) → base ≤ length l → base + length p ≤ i → getD (writeAt base p l) i 0 ≡ getD l i 0
-write-past base p l i h f =
-    let e : base + length p + (i - (base + length p)) ≡ i = omega arith in
-    ap (λ (n : ℕ). getD (writeAt base p l) n 0) (sym e)
-    ∙ sym (getD-drop (base + length p) (writeAt base p l) (i - (base + length p)) 0)
-    ∙ ap (λ (q : List ℕ). getD q (i - (base + length p)) 0) (drop-write base p l (length p) h (omega arith))
-    ∙ getD-drop (base + length p) l (i - (base + length p)) 0
-    ∙ ap (λ (n : ℕ). getD l n 0) e
+pub length-part : (base n : ℕ) (l : List ℕ) → base + n ≤ length l → length (part base n l) ≡ n
+length-part base n l h = length-take-le n (drop base l) (rw (length-drop base l) (omega arith))
 
 -- a part written over itself
 pub write-same : (base n : ℕ) (l : List ℕ) → base + n ≤ length l → writeAt base (part base n l) l ≡ l
@@ -80,37 +39,24 @@ write-same base n l h =
     ∙ ap (λ (t : List ℕ). take base l ++ t) (take-append-drop n (drop base l))
     ∙ take-append-drop base l
 
--- ---- one entry of what is written
+pub length-padded : (n : ℕ) (l : List ℕ) → length (padded n l) ≡ length l + (n - length l)
+length-padded n l = length-append l (replicate (n - length l) 0) ∙ ap (λ (k : ℕ). length l + k) (length-replicate {A = ℕ} (n - length l) 0)
 
-set-append-add : (xs ys : List ℕ) (i v : ℕ) → set (xs ++ ys) (length xs + i) v ≡ xs ++ set ys i v
-set-append-add [] ys i v = rw (zero-add i)
-set-append-add (x ∷ xs) ys i v = rw (suc-add (length xs) i) (ap (λ (t : List ℕ). x ∷ t) (set-append-add xs ys i v))
+-- ---- entries read one by one: n of them, from place i on
 
-pub write-set : (base : ℕ) (p l : List ℕ) (i v : ℕ) → base ≤ length l → i < length p → writeAt base (set p i v) l ≡ set (writeAt base p l) (base + i) v
-unfolding writeAt
-write-set base p l i v h f =
-    ap (λ (n : ℕ). take base l ++ (set p i v ++ drop n (drop base l))) (length-set p i v)
-    ∙ ap (λ (t : List ℕ). take base l ++ t) (sym (set-append-left p (drop (length p) (drop base l)) i v f))
-    ∙ sym
-    (ap (λ (n : ℕ). set (take base l ++ (p ++ drop (length p) (drop base l))) (n + i) v) (sym (length-take-le base l h))
-    ∙ set-append-add (take base l) (p ++ drop (length p) (drop base l)) i v)
+abbrev pub readFrom : ℕ → ℕ → List ℕ → List ℕ
+readFrom zero i l = []
+readFrom (suc n) i l = getD l i 0 ∷ readFrom n (suc i) l
 
-pub write-at : (base : ℕ) (p l : List ℕ) (i : ℕ) → base ≤ length l → i < length p → getD (writeAt base p l) (base + i) 0 ≡ getD p i 0
-unfolding writeAt
-write-at base p l i h f =
-    ap (λ (n : ℕ). getD (take base l ++ (p ++ drop (length p) (drop base l))) (n + i) 0) (sym (length-take-le base l h))
-    ∙ getD-append-add (take base l) (p ++ drop (length p) (drop base l)) i 0
-    ∙ List·getD-append p (drop (length p) (drop base l)) 0 i f
-
-pub part-at : (base n : ℕ) (l : List ℕ) (i : ℕ) → i < n → getD (part base n l) i 0 ≡ getD l (base + i) 0
-part-at base n l i h = getD-take n (drop base l) i 0 h ∙ getD-drop base l i 0
-
-pub length-part : (base n : ℕ) (l : List ℕ) → base + n ≤ length l → length (part base n l) ≡ n
-length-part base n l h = length-take-le n (drop base l) (rw (length-drop base l) (omega arith))
+-- all that there are
+pub read-all : (n i : ℕ) (l : List ℕ) → length l ≡ i + n → readFrom n i l ≡ drop i l
+read-all zero i l h = sym (drop-of-length-le l {i = i} (omega arith))
+read-all (suc n) i l h = rw (drop-cons l i 0 (omega arith)) (ap (λ (t : List ℕ). getD l i 0 ∷ t) (read-all n (suc i) l (omega arith)))
 
 -- ---- rows written over a table: n rows of `room` entries, none longer
 
-module _ (room : ℕ) (top : ℕ → List ℕ) (l : List ℕ) (n : ℕ) (long : n * room ≤ length l) (fits : (k : ℕ) → k < n → length (top k) ≤ room) where
+module _ (room : ℕ) (top : ℕ → List ℕ) (l : List ℕ) (n : ℕ) (long : n * room ≤ length l)
+    (fits : (k : ℕ) → k < n → length (top k) ≤ room) where
   pub length-rows : (k : ℕ) → k ≤ n → length (writtenRows room top k l) ≡ length l
   unfolding writtenRows
   length-rows zero h = refl
@@ -140,10 +86,12 @@ module _ (room : ℕ) (top : ℕ → List ℕ) (l : List ℕ) (n : ℕ) (long : 
       (λ e.
       let q : k ≡ m → ⊥ = eqb-false k m e in
       let g : k < m = omega (arith, q) in
-      read-before (m * room) (top m) (writtenRows room top m l) (k * room) (length (top k)) (start-in m h) (omega (arith, row-in k m room g, fits k (omega arith)))
+      read-before (m * room) (top m) (writtenRows room top m l) (k * room) (length (top k)) (start-in m h)
+      (omega (arith, row-in k m room g, fits k (omega arith)))
       ∙ row-after m k (omega arith) g)
 
-  pub entry-after : (m k j : ℕ) → m ≤ n → k < n → length (top k) ≤ j → j < room → getD (writtenRows room top m l) (k * room + j) 0 ≡ getD l (k * room + j) 0
+  pub entry-after : (m k j : ℕ) → m ≤ n → k < n → length (top k) ≤ j → j < room
+      → getD (writtenRows room top m l) (k * room + j) 0 ≡ getD l (k * room + j) 0
   unfolding writtenRows
   entry-after zero k j h f g u = refl
   entry-after (suc m) k j h f g u =
@@ -204,23 +152,8 @@ setLengths-at top (suc n) k l h f =
 
 -- ---- rows that are the same
 
-pub rows-same : (room : ℕ) (top up : ℕ → List ℕ) (n : ℕ) (l : List ℕ) → ((k : ℕ) → k < n → top k ≡ up k) → writtenRows room top n l ≡ writtenRows room up n l
+pub rows-same : (room : ℕ) (top up : ℕ → List ℕ) (n : ℕ) (l : List ℕ) → ((k : ℕ) → k < n → top k ≡ up k)
+    → writtenRows room top n l ≡ writtenRows room up n l
 unfolding writtenRows
 rows-same room top up zero l h = refl
 rows-same room top up (suc n) l h = rw (h n (omega arith), rows-same room top up n l (λ k g. h k (omega arith)))
-
-pub setLengths-same : (top up : ℕ → List ℕ) (n : ℕ) (l : List ℕ) → ((k : ℕ) → k < n → top k ≡ up k) → setLengths top n l ≡ setLengths up n l
-unfolding setLengths
-setLengths-same top up zero l h = refl
-setLengths-same top up (suc n) l h = rw (h n (omega arith), setLengths-same top up n l (λ k g. h k (omega arith)))
-
--- ---- entries read one by one: n of them, from place i on
-
-abbrev pub listed : ℕ → ℕ → List ℕ → List ℕ
-listed zero i l = []
-listed (suc n) i l = getD l i 0 ∷ listed n (suc i) l
-
--- all that there are
-pub listed-all : (n i : ℕ) (l : List ℕ) → length l ≡ i + n → listed n i l ≡ drop i l
-listed-all zero i l h = sym (drop-of-length-le l {i = i} (omega arith))
-listed-all (suc n) i l h = rw (drop-cons l i 0 (omega arith)) (ap (λ (t : List ℕ). getD l i 0 ∷ t) (listed-all n (suc i) l (omega arith)))

@@ -1,6 +1,6 @@
 -- A machine passed over a list by a loop, i things passed: its state, how many it left, and those at the front of an output.
 -- The idea: what was left so far, and what the present state leaves of the rest, is what the first state leaves of all. Assumes nothing.
-use Prim.Native.Nat.{ℕ, suc, _+_, _≤_, _<_}
+use Prim.Native.Nat.{ℕ, _+_, _≤_, _<_}
 use mathlib.Core.Path.{_≡_, refl, sym, ap, ap₂, _∙_}
 use mathlib.Core.Bool.{Bool, true, false}
 use mathlib.Core.List.{List, [], _∷_, _++_, append-nil}

@@ -1,9 +1,9 @@
 -- Laws of `raisedRows` and `raisedGroups`: which counts go up by one, and that no other does.
 -- Assumes nothing.
 use Prim.Native.Nat.{ℕ, zero, suc, _+_, _*_, _≤_, _<_}
-use mathlib.Core.Path.{_≡_, refl, sym, ap, _∙_}
-use mathlib.Core.Bool.{Bool, true, false, cond, _&&_, true≢false, false≢true}
-use mathlib.Core.List.{List, [], _∷_}
+use mathlib.Core.Path.{_≡_, refl, ap, _∙_}
+use mathlib.Core.Bool.{Bool, true, false, cond}
+use mathlib.Core.List.{List}
 use native.Mathlib.Nat.{suc-mul, mul-one, mul-le-mul-left}
 use native.Mathlib.Numerals.{add-one}
 use native.Mathlib.Omega.{arith}
@@ -11,7 +11,7 @@ use lib.Arith.{digits-lt}
 use lib.Dec.{eqb, ltb}
 use lib.ListN.{length, getD, set, length-set}
 use lib.Seq.{getD-set-same, getD-set-other}
-use borrow.Author.Tests.{eqb-true, eqb-false, ltb-true, ltb-false, lt-ltb, le-ltb}
+use borrow.Author.Tests.{eqb-true, eqb-false, eq-eqb, ltb-true, lt-ltb, le-ltb}
 use Rattle.lists.specs.Tables.{raiseIf, raisedRows, raisedGroups}
 use Rattle.lists.proofs.Cases.{cases}
 use Rattle.lists.proofs.PartLaws.{row-in, rows-le}
@@ -57,14 +57,6 @@ module _ (w first : ℕ) (d : ℕ → ℕ) where
       (λ t e. let q = cell-in w (first + s) (first + suc s) (d s) (omega arith) (ltb-true (d s) w t) in omega arith)
       ∙ raised-past s l j (omega (arith, rows-le (first + s) (first + suc s) w (omega arith)))
 
-  pub raised-before : (n : ℕ) (l : List ℕ) (j : ℕ) → j < first * w → getD (raisedRows w first d n l) j 0 ≡ getD l j 0
-  unfolding raisedRows
-  raised-before zero l j h = refl
-  raised-before (suc s) l j h =
-      raiseIf-other (ltb (d s) w) ((first + s) * w + d s) j (raisedRows w first d s l)
-      (λ t e. let q = rows-le (first) (first + s) w (omega arith) in omega arith)
-      ∙ raised-before s l j h
-
   -- the start and a turn of a loop over the rows
   pub raised-none : (l : List ℕ) → l ≡ raisedRows w first d 0 l
   unfolding raisedRows
@@ -73,7 +65,9 @@ module _ (w first : ℕ) (d : ℕ → ℕ) where
   pub raised-yes : (s : ℕ) (l c : List ℕ) → c ≡ raisedRows w first d s l → d s < w
       → set c ((first + s) * w + d s) (getD c ((first + s) * w + d s) 0 + 1) ≡ raisedRows w first d (s + 1) l
   unfolding raisedRows
-  raised-yes s l c e h = rw (add-one s) (simp (lt-ltb (d s) w h) (ap (λ (t : List ℕ). set t ((first + s) * w + d s) (getD t ((first + s) * w + d s) 0 + 1)) e))
+  raised-yes s l c e h =
+      let i = (first + s) * w + d s in
+      rw (add-one s) (simp (lt-ltb (d s) w h) (ap (λ (t : List ℕ). set t i (getD t i 0 + 1)) e))
 
   pub raised-not : (s : ℕ) (l c : List ℕ) → c ≡ raisedRows w first d s l → w ≤ d s → c ≡ raisedRows w first d (s + 1) l
   unfolding raisedRows
@@ -95,6 +89,12 @@ module _ (w first : ℕ) (d : ℕ → ℕ) where
       row : (first + n) * w + w ≤ length l
       row = omega (arith, row-in (first + n) (first + suc n) w (omega arith))
 
+      so-far : List ℕ
+      so-far = raisedRows w first d n l
+
+      cell : ℕ
+      cell = (first + n) * w + e
+
       here : getD (raiseIf (ltb (d n) w) ((first + n) * w + d n) (raisedRows w first d n l)) ((first + n) * w + e) 0
           ≡ getD l ((first + n) * w + e) 0 + cond (eqb e (d n)) 1 0
       here =
@@ -102,9 +102,9 @@ module _ (w first : ℕ) (d : ℕ → ℕ) where
           (λ g.
           let q = eqb-true e (d n) g in
           rw (← q)
-          (simp (lt-ltb e w f, borrow.Author.Tests.eq-eqb e e refl)
-          (getD-set-same (raisedRows w first d n l) ((first + n) * w + e) (getD (raisedRows w first d n l) ((first + n) * w + e) 0 + 1) 0 (omega (arith, length-raised n l, row))
-          ∙ ap (λ (v : ℕ). v + 1) (raised-past n l ((first + n) * w + e) (omega arith)))))
+          (simp (lt-ltb e w f, eq-eqb e e refl)
+          (getD-set-same so-far cell (getD so-far cell 0 + 1) 0 (omega (arith, length-raised n l, row))
+          ∙ ap (λ (v : ℕ). v + 1) (raised-past n l cell (omega arith)))))
           (λ g.
           let q : e ≡ d n → ⊥ = eqb-false e (d n) g in
           simp g
@@ -119,7 +119,8 @@ module _ (w first : ℕ) (d : ℕ → ℕ) where
           (λ t z. let q = cell-in w (first + s) (first + n) e (omega arith) f in omega arith)
           ∙ ih
 
-pub raised-same : (w first : ℕ) (d e : ℕ → ℕ) (n : ℕ) (l : List ℕ) → ((s : ℕ) → s < n → d s ≡ e s) → raisedRows w first d n l ≡ raisedRows w first e n l
+pub raised-same : (w first : ℕ) (d e : ℕ → ℕ) (n : ℕ) (l : List ℕ) → ((s : ℕ) → s < n → d s ≡ e s)
+    → raisedRows w first d n l ≡ raisedRows w first e n l
 unfolding raisedRows
 raised-same w first d e zero l h = refl
 raised-same w first d e (suc s) l h = rw (h s (omega arith), raised-same w first d e s l (λ k q. h k (omega arith)))
@@ -127,12 +128,6 @@ raised-same w first d e (suc s) l h = rw (h s (omega arith), raised-same w first
 -- ---- groups of rows
 
 module _ (w r : ℕ) (f : ℕ → Bool) (d : ℕ → ℕ → ℕ) where
-  pub length-groups : (k : ℕ) (l : List ℕ) → length (raisedGroups w r f d k l) ≡ length l
-  unfolding raisedGroups
-  length-groups zero l = refl
-  length-groups (suc k) l =
-      cases (f k) (λ e. simp e (length-raised w (k * r) (d k) r (raisedGroups w r f d k l) ∙ length-groups k l)) (λ e. simp e (length-groups k l))
-
   pub groups-past : (k : ℕ) (l : List ℕ) (j : ℕ) → k * r * w ≤ j → getD (raisedGroups w r f d k l) j 0 ≡ getD l j 0
   unfolding raisedGroups
   groups-past zero l j h = refl
@@ -147,7 +142,8 @@ module _ (w r : ℕ) (f : ℕ → Bool) (d : ℕ → ℕ → ℕ) where
   unfolding raisedGroups
   groups-none l = refl
 
-  pub groups-yes : (k : ℕ) (l c c′ : List ℕ) → c ≡ raisedGroups w r f d k l → f k ≡ true → c′ ≡ raisedRows w (k * r) (d k) r c → c′ ≡ raisedGroups w r f d (k + 1) l
+  pub groups-yes : (k : ℕ) (l c c′ : List ℕ) → c ≡ raisedGroups w r f d k l → f k ≡ true → c′ ≡ raisedRows w (k * r) (d k) r c
+      → c′ ≡ raisedGroups w r f d (k + 1) l
   unfolding raisedGroups
   groups-yes k l c c′ e h g = rw (add-one k) (simp h (g ∙ ap (raisedRows w (k * r) (d k) r) e))
 
@@ -155,43 +151,11 @@ module _ (w r : ℕ) (f : ℕ → Bool) (d : ℕ → ℕ → ℕ) where
   unfolding raisedGroups
   groups-not k l c e h = rw (add-one k) (simp h e)
 
-  -- exactly which
-  pub group-at : (n : ℕ) (l : List ℕ) → n * r * w ≤ length l → (k s e : ℕ) → k < n → s < r → e < w
-      → getD (raisedGroups w r f d n l) ((k * r + s) * w + e) 0 ≡ getD l ((k * r + s) * w + e) 0 + cond (f k && eqb e (d k s)) 1 0
-  unfolding raisedGroups
-  group-at zero l long k s e h u v = absurd (omega arith)
-  group-at (suc n) l long k s e h u v =
-      cases (eqb k n)
-      (λ q. rw (eqb-true k n q) here)
-      (λ q.
-      let z : k ≡ n → ⊥ = eqb-false k n q in
-      let g : k < n = omega (arith, z) in
-      there g (group-at n l (omega (arith, rows-le (n * r) (suc n * r) w (omega (arith, suc-mul n r)))) k s e g u v))
-    where
-      past : getD (raisedGroups w r f d n l) ((n * r + s) * w + e) 0 ≡ getD l ((n * r + s) * w + e) 0
-      past = groups-past n l ((n * r + s) * w + e) (omega (arith, rows-le (n * r) (n * r + s) w (omega arith)))
-
-      here : getD (raisedGroups w r f d (suc n) l) ((n * r + s) * w + e) 0 ≡ getD l ((n * r + s) * w + e) 0 + cond (f n && eqb e (d n s)) 1 0
-      here =
-          cases (f n)
-          (λ g.
-          simp g
-          (raised-at w (n * r) (d n) r (raisedGroups w r f d n l) (rw (length-groups n l, ← suc-mul n r) long) s e u v
-          ∙ ap (λ (x : ℕ). x + cond (eqb e (d n s)) 1 0) past))
-          (λ g. simp g (past ∙ omega arith))
-
-      there : k < n → getD (raisedGroups w r f d n l) ((k * r + s) * w + e) 0 ≡ getD l ((k * r + s) * w + e) 0 + cond (f k && eqb e (d k s)) 1 0
-          → getD (raisedGroups w r f d (suc n) l) ((k * r + s) * w + e) 0 ≡ getD l ((k * r + s) * w + e) 0 + cond (f k && eqb e (d k s)) 1 0
-      there g ih =
-          let q = cell-in r k n s g u in
-          let i = cell-in w (k * r + s) (n * r) e q v in
-          cases (f n)
-          (λ t. simp t (raised-before w (n * r) (d n) r (raisedGroups w r f d n l) ((k * r + s) * w + e) i ∙ ih))
-          (λ t. simp t ih)
-
 pub groups-same : (w r : ℕ) (f g : ℕ → Bool) (d e : ℕ → ℕ → ℕ) (n : ℕ) (l : List ℕ) → ((k : ℕ) → k < n → f k ≡ g k)
     → ((k s : ℕ) → k < n → s < r → d k s ≡ e k s) → raisedGroups w r f d n l ≡ raisedGroups w r g e n l
 unfolding raisedGroups
 groups-same w r f g d e zero l same deep = refl
 groups-same w r f g d e (suc k) l same deep =
-    rw (same k (omega arith), groups-same w r f g d e k l (λ j q. same j (omega arith)) (λ j s q. deep j s (omega arith)), raised-same w (k * r) (d k) (e k) r (raisedGroups w r g e k l) (λ s q. deep k s (omega arith) q))
+    let before = groups-same w r f g d e k l (λ j q. same j (omega arith)) (λ j s q. deep j s (omega arith)) in
+    let this = raised-same w (k * r) (d k) (e k) r (raisedGroups w r g e k l) (λ s q. deep k s (omega arith) q) in
+    rw (same k (omega arith), before, this)

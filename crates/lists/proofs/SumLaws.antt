@@ -1,11 +1,10 @@
 -- Laws of `total` and `sumTo`.
 -- Assumes nothing.
-use Prim.Native.Nat.{ℕ, zero, suc, _+_, _≤_, _<_}
-use mathlib.Core.Path.{_≡_, refl, sym, ap, ap₂, _∙_}
+use Prim.Native.Nat.{ℕ, zero, suc, _+_, _<_}
+use mathlib.Core.Path.{_≡_, refl, ap, ap₂}
 use mathlib.Core.List.{List, [], _∷_, _++_, map}
 use native.Mathlib.Omega.{arith}
-use native.Mathlib.Nat.{le-of-lt}
-use Rattle.lists.specs.Runs.{answers, after}
+use Rattle.lists.specs.Runs.{answers}
 use Rattle.lists.specs.Sums.{total, sumTo}
 
 module _ {A : Type 0} where
@@ -34,12 +33,6 @@ pub total-answers : {S E O : Type 0} (step : S → E → S) (out : S → E → O
     → ((s : S) (e : E) → f (out s e) ≡ g e) → (s : S) (es : List E) → total f (answers step out s es) ≡ total g es
 total-answers step out f g h s [] = refl
 total-answers step out f g h s (e ∷ es) = ap₂ _+_ (h s e) (total-answers step out f g h (step s e) es)
-
--- what one thing more adds
-pub total-one-more : {S E O : Type 0} (step : S → E → S) (out : S → E → O) (f : O → ℕ) (s : S) (es : List E) (e : E)
-    → total f (answers step out s (es ++ (e ∷ []))) ≡ total f (answers step out s es) + f (out (after step s es) e)
-total-one-more step out f s [] e = omega arith
-total-one-more step out f s (d ∷ es) e = omega (arith, total-one-more step out f (step s d) es e)
 
 -- two sums of numbers that agree below n
 pub sumTo-same : (f g : ℕ → ℕ) (n : ℕ) → ((k : ℕ) → k < n → f k ≡ g k) → sumTo f n ≡ sumTo g n

@@ -2,13 +2,13 @@
 -- Assumes nothing.
 use Prim.Native.Nat.{ℕ, zero, suc, _+_, _≤_, _<_}
 use mathlib.Core.Path.{_≡_, refl, sym, ap, _∙_, subst}
-use mathlib.Core.Bool.{Bool, true, false, cond, not, _&&_, _||_, true≢false, false≢true, or-true, and-false}
+use mathlib.Core.Bool.{Bool, true, false, cond, true≢false, false≢true, or-true}
 use mathlib.Core.List.{List, [], _∷_}
 use native.Mathlib.Numerals.{add-one}
 use native.Mathlib.Omega.{arith}
 use lib.Dec.{leb, eqb}
-use borrow.Author.Tests.{le-leb, lt-leb, leb-true, leb-false, eq-eqb, ne-eqb, eqb-true, eqb-false, not-false}
-use Rattle.lists.specs.Tests.{firstOf, settled, anyTo, allLe, All≤}
+use borrow.Author.Tests.{le-leb, leb-true, eq-eqb, ne-eqb, eqb-true, eqb-false}
+use Rattle.lists.specs.Tests.{settled, anyTo, allLe, All≤}
 use Rattle.lists.proofs.Cases.{cases}
 
 -- ---- the first that holds

@@ -6,25 +6,22 @@ use mathlib.Core.List.{List, [], _∷_, map}
 use Rattle.lists.specs.Sums.{total}
 use Rattle.lists.specs.Tables.{valuesTo}
 use Rattle.cache.specs.Cache.{blockOf, setOf, Event, touch, hit, miss, missed, simulate, ref, missesOver}
+use Rattle.cache.proofs.Worked.{addresses}
 use Rattle.strip.specs.Strip.{keptOf, entryOf}
 
 -- ---- the worked trace
 
--- the addresses 0, 10, 20, 0, 14, 40, 0, 20 (hex)
-abbrev trace : List ℕ
-trace = 0x0 ∷ 0x10 ∷ 0x20 ∷ 0x0 ∷ 0x14 ∷ 0x40 ∷ 0x0 ∷ 0x20 ∷ []
-
-pub worked : keptOf 4 2 trace ≡ 0x0 ∷ 0x10 ∷ 0x20 ∷ 0x40 ∷ 0x0 ∷ []
+pub worked-kept : keptOf 4 2 addresses ≡ 0x0 ∷ 0x10 ∷ 0x20 ∷ 0x40 ∷ 0x0 ∷ []
 unfolding blockOf setOf
-worked = refl
+worked-kept = refl
 
 -- the last blocks of its sets are 0, 1, 2 and none
-pub worked-filter : valuesTo 4 (entryOf 4 2 trace) ≡ 1 ∷ 2 ∷ 3 ∷ 0 ∷ []
+pub worked-filter : valuesTo 4 (entryOf 4 2 addresses) ≡ 1 ∷ 2 ∷ 3 ∷ 0 ∷ []
 unfolding blockOf setOf
 worked-filter = refl
 
 -- at s = 0 all 8 are kept
-pub worked-one-set : keptOf 4 0 trace ≡ trace
+pub worked-one-set : keptOf 4 0 addresses ≡ addresses
 unfolding blockOf setOf
 worked-one-set = refl
 

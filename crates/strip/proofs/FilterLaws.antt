@@ -102,9 +102,9 @@ getD-after b s i below (a ∷ l) t h =
     (λ e. simp e (ih ∙ ap (λ (v : ℕ). lastPlusOne v (blocksOf b s i l)) (step-same b s a i t h e)))
     (λ e. simp e (ih ∙ ap (λ (v : ℕ). lastPlusOne v (blocksOf b s i l)) (step-other b s a i t e)))
 
-length-after : (b s : ℕ) (l t : List ℕ) → length (filterAfter b s t l) ≡ length t
-length-after b s [] t = refl
-length-after b s (a ∷ l) t = length-after b s l (filterStep b s t a) ∙ simp length-set
+length-filter : (b s : ℕ) (l t : List ℕ) → length (filterAfter b s t l) ≡ length t
+length-filter b s [] t = refl
+length-filter b s (a ∷ l) t = length-filter b s l (filterStep b s t a) ∙ simp length-set
 
 drop-after : (b s : ℕ) (l t : List ℕ) → drop (2 ^ s) (filterAfter b s t l) ≡ drop (2 ^ s) t
 drop-after b s [] t = refl
@@ -120,22 +120,22 @@ filter-is b s l t h =
     let long : n ≤ length empty = rw (length-zeroed n t) h in
     let entries : (i : ℕ) → i < n → getD (filterAfter b s empty l) i 0 ≡ entryOf b s l i
     = λ i below. getD-after b s i below l empty long ∙ ap (λ (e : ℕ). lastPlusOne e (blocksOf b s i l)) (getD-zeroed n i t below) in
-    values-are n (entryOf b s l) (filterAfter b s empty l) (rw (length-after b s l empty) long) entries
+    values-are n (entryOf b s l) (filterAfter b s empty l) (rw (length-filter b s l empty) long) entries
     ∙ ap (valuesTo n (entryOf b s l) ++_) (drop-after b s l empty ∙ drop-zeroed n t)
 
 -- ---- the entries and the cache's sets
 
-entry-after : (b s i : ℕ) (l : List ℕ) (c : Sets) (e : ℕ) → c i ≡ setIn e
+set-after : (b s i : ℕ) (l : List ℕ) (c : Sets) (e : ℕ) → c i ≡ setIn e
     → after (cacheStep s 1) c (touchesOf b l) i ≡ setIn (lastPlusOne e (blocksOf b s i l))
-entry-after b s i [] c e h = h
-entry-after b s i (a ∷ l) c e h =
+set-after b s i [] c e h = h
+set-after b s i (a ∷ l) c e h =
     cases (eqb i (placeOf b s a))
-    (λ q. simp q (entry-after b s i l (cacheStep s 1 c (touch (blockOf b a))) (suc (blockOf b a)) (simp (q, h, refer-set-in))))
-    (λ q. simp q (entry-after b s i l (cacheStep s 1 c (touch (blockOf b a))) e (simp q h)))
+    (λ q. simp q (set-after b s i l (cacheStep s 1 c (touch (blockOf b a))) (suc (blockOf b a)) (simp (q, h, refer-set-in))))
+    (λ q. simp q (set-after b s i l (cacheStep s 1 c (touch (blockOf b a))) e (simp q h)))
 
 -- entry i tells set i of the direct-mapped cache after the whole list
 pub entry-is : (b s i : ℕ) (l : List ℕ) → after (cacheStep s 1) emptySets (touchesOf b l) i ≡ setIn (entryOf b s l i)
-entry-is b s i l = entry-after b s i l emptySets 0 refl
+entry-is b s i l = set-after b s i l emptySets 0 refl
 
 -- so a block is in the set where the entry is its number plus one
 pub entry-test : (b s i : ℕ) (l : List ℕ) (x : ℕ)
@@ -145,12 +145,12 @@ entry-test b s i l x = ap (mem x) (entry-is b s i l) ∙ mem-set-in x (entryOf b
 -- ---- a counting pass from the emptied filter t on
 
 module _ {b s : ℕ} {l t : List ℕ} {n : ℕ} {t′ : List ℕ} (p : Counts b s l t n t′) (table : List ℕ) (start : t ≡ zeroed (2 ^ s) table) where
-  pub counted : 2 ^ s ≤ length table → n ≡ length (keptOf b s l)
-  counted h = p .count ∙ ap (λ (u : List ℕ). length (keptFrom b s u l)) start ∙ ap length (kept-is b s l table h)
+  pub kept-counted : 2 ^ s ≤ length table → n ≡ length (keptOf b s l)
+  kept-counted h = p .count ∙ ap (λ (u : List ℕ). length (keptFrom b s u l)) start ∙ ap length (kept-is b s l table h)
 
   -- it can be emptied again
   pub zeroed-again : zeroed (2 ^ s) t′ ≡ zeroed (2 ^ s) table
   zeroed-again =
       zeroed-same (2 ^ s) t′ table
-      (ap length (p .filter) ∙ length-after b s l t ∙ ap length start ∙ length-zeroed (2 ^ s) table)
+      (ap length (p .filter) ∙ length-filter b s l t ∙ ap length start ∙ length-zeroed (2 ^ s) table)
       (ap (drop (2 ^ s)) (p .filter) ∙ drop-after b s l t ∙ ap (drop (2 ^ s)) start ∙ drop-zeroed (2 ^ s) table)

@@ -8,7 +8,7 @@ use borrow.Author.Needs.{needs}
 use borrow.Author.Tests.{le-ltb}
 use Rattle.lists.specs.Tables.{zeroed}
 use Rattle.strip.specs.Strip.{keptOf}
-use Rattle.strip.proofs.FilterLaws.{length-kept, counted, zeroed-again}
+use Rattle.strip.proofs.FilterLaws.{length-kept, kept-counted, zeroed-again}
 use Rattle.strip.proofs.is_short.Statement.{statement}
 use Rattle.strip.proofs.is_short.Tie as tie
 
@@ -36,7 +36,7 @@ returns-2 c =
     let pass = at-count .count in
     let a = start at-clear .args in
     record {
-      short = ap (ltb (a .len)) (counted (pass .ensures) (a .filter .now) (empty at-clear) (start at-clear .pre .1 .wide));
+      short = ap (ltb (a .len)) (kept-counted (pass .ensures) (a .filter .now) (empty at-clear) (start at-clear .pre .1 .wide));
       filter =
           at-clear2 .clear2 .ensures
           ∙ ap (λ (n : ℕ). zeroed n (pass .last .1 .1 .1 .0)) (at-clear .before .before .sets-of .ensures)

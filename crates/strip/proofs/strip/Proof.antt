@@ -8,7 +8,6 @@ use borrow.Author.Needs.{needs}
 use borrow.Author.Tests.{not-true, not-false}
 use Rattle.lists.specs.Tests.{allLe, All≤}
 use Rattle.lists.proofs.TestLaws.{all-facts}
-use Rattle.strip.specs.Filter.{Empties}
 use Rattle.strip.specs.Strip.{stripLimits}
 use Rattle.strip.proofs.AnswerLaws.{outside, filter-short, output-short, all-done, emptied-passable, kept-fit}
 use Rattle.strip.proofs.strip.Statement.{statement}
