@@ -78,14 +78,16 @@ def opened(name):
 
 
 class Input:
-    """What the program is given, and how a line of it is found again. `file` is an open file, or `chunks` an iterator of bytes."""
+    """What the program is given, and how a line of it is found again. `file` is an open file, or `chunks` an iterator of bytes,
+    of which the first `above` lines are an order that the script put there."""
 
-    def __init__(self, file=None, chunks=None):
+    def __init__(self, file=None, chunks=None, above=0):
         self.regular = file is not None and stat.S_ISREG(os.fstat(file.fileno()).st_mode)
         self.file = file
         self.start = file.tell() if self.regular else 0
         self.chunks = chunks if chunks is not None else iter(lambda: file.read1(CHUNK), b"")
         self.head = b""
+        self.above = above
         self.kept = collections.deque(maxlen=256)  # pairs: the number of a chunk's first line, the chunk
         self.lines = 1
 
@@ -139,7 +141,7 @@ def answer(program, given):
     refused = refusals.parse(printed)
     if refused:
         line = given.line(refused.line)
-        for text in refusals.explained(refused, line, given.head):
+        for text in refusals.explained(refused, line, given.head, given.above):
             say(text)
         return REFUSED
     try:

@@ -29,10 +29,12 @@ def parse(printed):
     return Refusal(*map(int, found.groups())) if found else None
 
 
-def explained(refused, line, head):
-    """The lines for standard error. `line` is the offending line or None where there is none, `head` how the input begins."""
+def explained(refused, line, head, above=0):
+    """The lines for standard error. `line` is the offending line or None where there is none, `head` how the input begins, `above` how
+    many lines of order stand above a recording."""
     means, do = MEANINGS.get(refused.number, ("a refusal that this script does not know", "see README, \"When it refuses\""))
-    lines = ["refused with %d at line %d: %s" % (*refused, means)]
+    where = " (line %d of the recording)" % (refused.line - above) if above else ""
+    lines = ["refused with %d at line %d%s: %s" % (*refused, where, means)]
     lines.append("  the line: %s" % ("none, the input ends before it" if line is None else shown(line)))
     lines.append("  what to do: %s" % do)
     return lines + ["  hint: %s" % hint for hint in hints(refused, line, head)]
