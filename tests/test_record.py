@@ -1,0 +1,141 @@
+#!/usr/bin/env python3
+"""Runs scripts/lackey_to_din.py on logs written by hand, and scripts/record with a stand-in for valgrind, and with valgrind where it is."""
+import os
+import pathlib
+import shutil
+import subprocess
+import tempfile
+import time
+import unittest
+
+ROOT = pathlib.Path(__file__).resolve().parent.parent
+OPENING = "==7== Lackey, an example Valgrind tool\n==7== Command: x\n==7== \n"
+TRACE = "I  0401ae40,4\n L 1fff000520,8\nI  0401ae44,4\n S 00000000,1\n M 04a6fdc0,16\n"
+CLOSING = "==7== \n==7== Executed:\n==7==   guest instrs:  {:,}\n==7== \n==7== Exit code:       0\n"
+LOG = OPENING + TRACE + CLOSING.format(2)
+DIN = "2 401ae40\n0 ff000520\n2 401ae44\n1 0\n0 4a6fdc0\n1 4a6fdc0\n"
+
+
+def convert(log, *options):
+    return subprocess.run([ROOT / "scripts/lackey_to_din.py", *options], input=log, capture_output=True, text=True)
+
+
+class Converted(unittest.TestCase):
+    def test_whole(self):
+        ended = convert(LOG)
+        self.assertEqual((ended.returncode, ended.stdout), (0, DIN))
+        for said in ("8 other lines", "1 different addresses were cut", "6 references written"):
+            self.assertIn(said, ended.stderr)
+        self.assertEqual(convert(LOG[:-1]).returncode, 0)
+
+    def test_window(self):
+        lines = DIN.splitlines(True)
+        for skip in range(8):
+            for count in range(8):
+                ended = convert(LOG, "--skip", str(skip), "--count", str(count))
+                self.assertEqual(ended.stdout, "".join(lines[skip : skip + count]))
+                self.assertEqual(ended.returncode, 0 if ended.stdout else 1)
+            self.assertEqual(convert(LOG, "--skip", str(skip)).stdout, "".join(lines[skip:]))
+        self.assertEqual(convert(OPENING + TRACE, "--count", "6").returncode, 0)
+        self.assertEqual(convert(OPENING + TRACE, "--count", "7").returncode, 1)
+
+    def test_not_whole(self):
+        for log, said in [
+            (OPENING + TRACE, "without its closing lines"),
+            (OPENING + TRACE + "I  0401", "without its closing lines"),
+            ("", "no references"),
+            (OPENING + CLOSING.format(0), "no references"),
+            (OPENING + TRACE + CLOSING.format(1), "another process"),
+            (OPENING + TRACE + "==8== \n" + CLOSING.format(2), "another process"),
+            (OPENING + TRACE + "I  04I  0401ae40,4\n" + CLOSING.format(2), "another process"),
+        ]:
+            ended = convert(log)
+            self.assertEqual(ended.returncode, 1, log)
+            self.assertIn(said, ended.stderr)
+
+    def test_from_a_file(self):
+        with tempfile.NamedTemporaryFile("w") as log:
+            log.write(LOG)
+            log.flush()
+            self.assertEqual(convert("", log.name).stdout, DIN)
+        self.assertEqual(convert(LOG, "-").stdout, DIN)
+        self.assertEqual(convert("", "nowhere").returncode, 1)
+
+    def test_many(self):
+        """Across the edges of what is read at once; a word at each million; and not slower than a microsecond a line."""
+        times = 400000
+        begun = time.process_time() + sum(os.times()[2:4])
+        ended = convert(OPENING + TRACE * times + CLOSING.format(2 * times))
+        spent = time.process_time() + sum(os.times()[2:4]) - begun
+        self.assertEqual((ended.returncode, ended.stdout == DIN * times), (0, True))
+        self.assertIn("\n2,000,000 references\n", "\n" + ended.stderr)
+        self.assertEqual(ended.stderr.count(",000,000 references"), 2)
+        self.assertLess(spent, 5 * times / 10**6 + 1)
+
+
+class Recorded(unittest.TestCase):
+    def setUp(self):
+        folder = tempfile.TemporaryDirectory()
+        self.addCleanup(folder.cleanup)
+        self.folder = pathlib.Path(folder.name)
+
+    def write(self, name, text):
+        path = self.folder / name
+        path.write_text(text)
+        path.chmod(0o755)
+        return path
+
+    def record(self, *words, path=None):
+        ways = {**os.environ, "PATH": path or "%s:%s" % (self.folder, os.environ["PATH"])}
+        return subprocess.run([shutil.which("python3"), ROOT / "scripts/record", *words], capture_output=True, text=True, env=ways)
+
+    def stub(self, log):
+        """A valgrind that writes this log, and what it was called with to standard output."""
+        (self.folder / "log").write_text(log)
+        find = 'for word; do case $word in --log-fd=*) cat "%s/log" >"/dev/fd/${word#*=}" ;; esac; done\n' % self.folder
+        self.write("valgrind", "#!/bin/sh\necho called: $*\n" + find)
+
+    def test_recorded(self):
+        self.stub(LOG)
+        ended = self.record("true", "one", "--skip", "two")
+        self.assertEqual((ended.returncode, ended.stdout), (0, DIN))
+        self.assertRegex(ended.stderr, "called: --tool=lackey --trace-mem=yes .*true one --skip two\n")
+        self.assertEqual(self.record("--skip", "1", "--count", "2", "true").stdout, "".join(DIN.splitlines(True)[1:3]))
+
+    def test_not_whole(self):
+        self.stub(OPENING + TRACE)
+        ended = self.record("true")
+        self.assertEqual((ended.returncode, ended.stdout), (1, DIN))
+        self.assertIn("put another in its place", ended.stderr)
+
+    def test_scripts_are_refused(self):
+        self.stub(LOG)
+        for first, told in [("#!/bin/sh", "/bin/sh"), ("#!/usr/bin/env python3", "python3"), ("#! /usr/bin/env -S perl -w", "perl -w")]:
+            shim = self.write("shim", first + "\necho\n")
+            ended = self.record("shim", "an argument")
+            self.assertEqual((ended.returncode, ended.stdout), (2, ""))
+            self.assertIn("scripts/record %s %s 'an argument'" % (told, shim), ended.stderr)
+
+    def test_missing(self):
+        self.assertIn("no program nowhere", self.record("nowhere").stderr)
+        ended = self.record("/bin/true", path=str(self.folder))
+        self.assertEqual(ended.returncode, 2)
+        self.assertIn("valgrind is missing (Debian package valgrind)", ended.stderr)
+
+    def test_help_and_wrong_use(self):
+        self.assertEqual(self.record("--help").returncode, 0)
+        self.assertEqual(self.record().returncode, 2)
+
+    @unittest.skipUnless(shutil.which("valgrind"), "valgrind is not installed")
+    def test_valgrind(self):
+        true, shell = shutil.which("true"), shutil.which("sh")
+        ended = self.record(true)
+        self.assertEqual(ended.returncode, 0, ended.stderr)
+        self.assertRegex(ended.stdout, r"\A(?:[012] [0-9a-f]{1,8}\n){1000,}\Z")
+        self.assertIn("put another in its place", self.record(shell, "-c", "exec " + true).stderr)
+        self.assertIn("another process", self.record(shell, "-c", true + "; " + true).stderr)
+        self.assertEqual(self.record("--count", "100", true).stdout.count("\n"), 100)
+
+
+if __name__ == "__main__":
+    unittest.main()
