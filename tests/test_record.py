@@ -1,7 +1,12 @@
 #!/usr/bin/env python3
-"""Runs scripts/lackey_to_din.py on logs written by hand, and scripts/record with a stand-in for valgrind, and with valgrind where it is."""
+"""Runs scripts/lackey_to_din.py on logs written by hand, and scripts/record with a stand-in for valgrind, and with valgrind where it is.
+
+The qemu way is run on Arm programs where qemu-arm and a cross compiler are installed (Debian packages qemu-user, gcc and
+gcc-arm-linux-gnueabihf), and on this machine's own where its qemu is; what is left out for want of a package is told.
+"""
 import os
 import pathlib
+import platform
 import shutil
 import subprocess
 import tempfile
@@ -135,6 +140,86 @@ class Recorded(unittest.TestCase):
         self.assertIn("put another in its place", self.record(shell, "-c", "exec " + true).stderr)
         self.assertIn("another process", self.record(shell, "-c", true + "; " + true).stderr)
         self.assertEqual(self.record("--count", "100", true).stdout.count("\n"), 100)
+
+    def test_another_machine(self):
+        """An Arm program goes by qemu, and where that is missing the package is named."""
+        self.write("device", "").write_bytes(b"\x7fELF\x01\x01\x01" + bytes(9) + b"\x02\x00\x28\x00" + bytes(32))
+        ended = self.record(str(self.folder / "device"), path=str(self.folder))
+        self.assertEqual(ended.returncode, 2)
+        self.assertIn("qemu-arm is missing (Debian package qemu-user)", ended.stderr)
+        self.write("qemu-arm", "#!/bin/sh\n")
+        self.assertIn("gcc is missing (Debian package gcc)", self.record(str(self.folder / "device"), path=str(self.folder)).stderr)
+        self.write("text", "no program\n")
+        self.assertIn("no program that the qemu way knows", self.record("--by", "qemu", str(self.folder / "text")).stderr)
+
+
+ARM_PROGRAM = """\
+    .arm
+    .global _start
+_start: movw r1, #:lower16:words
+    movt r1, #:upper16:words
+    mov r2, #3
+again: ldr r0, [r1], #4
+    subs r2, r2, #1
+    bne again
+    str r0, [r1]
+    mov r7, #1
+    mov r0, #0
+    svc 0
+    .data
+words: .word 1, 2, 3, 4
+"""
+ARM_TOOLS = ["qemu-arm", "gcc", "arm-linux-gnueabihf-gcc"]
+OWN = "qemu-" + platform.machine()
+
+
+class ByQemu(unittest.TestCase):
+    setUp, write, record = Recorded.setUp, Recorded.write, Recorded.record
+
+    @unittest.skipUnless(all(map(shutil.which, ARM_TOOLS)), "one of %s is not installed" % ", ".join(ARM_TOOLS))
+    def test_an_arm_program(self):
+        """Its 16 fetches, 3 loads and a store, in the order that its text has by hand."""
+        source, program = self.write("words.s", ARM_PROGRAM), self.folder / "words"
+        subprocess.run(["arm-linux-gnueabihf-gcc", "-nostdlib", "-static", "-Wl,--build-id=none", "-o", program, source], check=True)
+        ended = self.record(str(program))
+        self.assertEqual(ended.returncode, 0, ended.stderr)
+        references = [(line[0], int(line[2:], 16)) for line in ended.stdout.splitlines()]
+        start, words = references[0][1], references[4][1]
+        circle = [[("2", start + 12), ("0", words + 4 * turn), ("2", start + 16), ("2", start + 20)] for turn in range(3)]
+        wanted = [("2", start + 4 * place) for place in range(3)] + sum(circle, [])
+        wanted += [("2", start + 24), ("1", words + 12)] + [("2", start + 4 * place) for place in (7, 8, 9)]
+        self.assertEqual(references, wanted)
+        self.assertIn("20 references written", ended.stderr)
+        ended = self.record("--skip", "3", "--count", "5", str(program))
+        self.assertEqual((ended.returncode, [(line[0], int(line[2:], 16)) for line in ended.stdout.splitlines()]), (0, wanted[3:8]))
+
+    @unittest.skipUnless(shutil.which(OWN) and shutil.which("gcc"), "%s or gcc is not installed" % OWN)
+    def test_this_machine(self):
+        true, shell = os.path.realpath(shutil.which("true")), os.path.realpath(shutil.which("sh"))
+        ended = self.record("--by", "qemu", true)
+        self.assertEqual(ended.returncode, 0, ended.stderr)
+        self.assertRegex(ended.stdout, r"\A(?:[012] [0-9a-f]{1,8}\n){1000,}\Z")
+        for words, said in [
+            ("exec " + true, "put another in its place"),
+            (true + "; " + true, "started another"),
+            ("(:); :", "started another"),
+            ("kill -9 $$", "the recording has no end"),
+        ]:
+            ended = self.record("--by", "qemu", shell, "-c", words)
+            self.assertEqual(ended.returncode, 1, words)
+            self.assertIn(said, ended.stderr)
+        ended = self.record("--by", "qemu", shell, "-c", "echo a word; exit 3")
+        self.assertEqual(ended.returncode, 0)
+        self.assertIn("a word\n", ended.stderr)
+        self.assertIn("the program ended with status 3", ended.stderr)
+
+    @unittest.skipUnless(shutil.which(OWN) and shutil.which("gcc"), "%s or gcc is not installed" % OWN)
+    def test_a_full_disk(self):
+        with open("/dev/full", "w") as full:
+            command = [ROOT / "scripts/record", "--by", "qemu", os.path.realpath(shutil.which("true"))]
+            ended = subprocess.run(command, stdout=full, stderr=subprocess.PIPE, text=True)
+        self.assertEqual(ended.returncode, 1)
+        self.assertIn("the trace not written", ended.stderr)
 
 
 if __name__ == "__main__":
