@@ -24,8 +24,14 @@ MARKERS = [  # corners, in a square from -1 to 1; the circle has none
 ]
 
 
-def picture(table, show_misses=False, log_scale=False):
-    """The picture, as the text of an SVG file."""
+def ways_drawn(table):
+    """The numbers of ways that get a line: all up to five, and of more the powers of two and the last, since more would smear."""
+    return list(table.ways) if len(table.ways) <= 5 else sorted({w for w in table.ways if w & (w - 1) == 0} | {table.ways[-1]})
+
+
+def picture(table, show_misses=False, log_scale=False, ways=None):
+    """The picture, as the text of an SVG file. Lines are drawn for these ways, or for those of `ways_drawn`."""
+    ways = ways or ways_drawn(table)
     heading = "%s of LRU caches against their size" % ("Misses" if show_misses else "Miss ratio")
     columns = min(2, len(table.block_sizes))
     width = max(columns * PANEL_WIDTH, 560)
@@ -33,18 +39,23 @@ def picture(table, show_misses=False, log_scale=False):
     scales = Scales(table, show_misses, log_scale)
     parts = [
         '<svg xmlns="http://www.w3.org/2000/svg" width="%d" height="%d" viewBox="0 0 %d %d"' % ((width, height) * 2)
-        + ' role="img" aria-labelledby="title desc" font-family="sans-serif" font-size="13">',
+        + ' role="img" aria-labelledby="title" aria-describedby="desc" font-family="sans-serif" font-size="13">',
         '<title id="title">%s</title>' % heading,
         '<desc id="desc">%s</desc>' % escape("\n".join(words.summary(table))),
         '<rect width="100%" height="100%" fill="white"/>',
         text(16, 28, heading, size=19, weight="bold"),
-        text(16, 50, words.summary(table)[0]),
+        text(16, 50, words.summary(table)[0] + lines_left_out(table, ways)),
     ]
     for place, b in enumerate(table.block_sizes):
         row, column = divmod(place, columns)
         parts.append('<g transform="translate(%d %d)">' % (column * PANEL_WIDTH, HEADING + row * PANEL_HEIGHT))
-        parts += panel(table, b, scales) + ["</g>"]
+        parts += panel(table, b, scales, ways) + ["</g>"]
     return "\n".join(parts + ["</svg>", ""])
+
+
+def lines_left_out(table, ways):
+    """A word where not every number of ways has a line."""
+    return "" if len(ways) == len(table.ways) else " Of 1 to %d ways %s are drawn." % (table.ways[-1], words.listed(ways))
 
 
 class Scales:
@@ -83,7 +94,7 @@ def even_ticks(highest, whole):
                 return [float("%de%d" % (mark * step, power)) for mark in range(math.ceil(highest / step / 10**power) + 1)]
 
 
-def panel(table, b, scales):
+def panel(table, b, scales, ways):
     at, caption, sign = mark(table, b, scales)
     parts = [
         text(LEFT, 20, "Blocks of %d bytes (b=%d)" % (2**b, b), size=16, weight="bold"),
@@ -93,15 +104,15 @@ def panel(table, b, scales):
         sign,
     ]
     ends = []
-    for w in table.ways:
+    for n, w in enumerate(ways):
         caches = [(b, s, w) for s in table.set_exponents]
         places = [(scales.x(size_of(cache)), scales.y(table.misses[cache] / scales.unit)) for cache in caches]
         parts.append(
             '<polyline points="%s" fill="none" stroke="%s" stroke-width="1.6" stroke-dasharray="%s"/>'
-            % (" ".join("%.1f,%.1f" % place for place in places), colour(w), DASHES[(w - 1) % len(DASHES)])
+            % (" ".join("%.1f,%.1f" % place for place in places), colour(n), DASHES[n % len(DASHES)])
         )
-        parts += [marker(w, *place) for place in places]
-        ends.append((places[-1][1], w, places[-1][0]))
+        parts += [marker(n, *place) for place in places]
+        ends.append((places[-1][1], w, n, places[-1][0]))
     return parts + labels(sorted(ends))
 
 
@@ -150,26 +161,26 @@ def labels(ends):
     """A label for each line, beside the plot, in the order of the lines' ends, joined to them by a thin line."""
     column = LEFT + PLOT_WIDTH + 20
     places, last = [], -math.inf
-    for y, _, _ in ends:
+    for y, *_ in ends:
         last = max(y, last + LABEL_STEP)
         places.append(last)
     for back, number in enumerate(reversed(range(len(places)))):
         places[number] = min(places[number], TOP + PLOT_HEIGHT - back * LABEL_STEP)
     parts = []
-    for place, (y, w, x) in zip(places, ends):
+    for place, (y, w, n, x) in zip(places, ends):
         parts.append('<path d="M%.1f %.1fL%d %.1f" stroke="#999" stroke-width="0.6"/>' % (x, y, column, place))
-        parts += [marker(w, column + 6, place), text(column + 16, place + 4, several(w, "way"))]
+        parts += [marker(n, column + 6, place), text(column + 16, place + 4, several(w, "way"))]
     return parts
 
 
-def colour(w):
-    return COLOURS[(w - 1) % len(COLOURS)]
+def colour(n):
+    return COLOURS[n % len(COLOURS)]
 
 
-def marker(w, x, y):
-    """The mark of w ways: eight shapes, filled up to 8 ways and open above."""
-    look = 'fill="%s" stroke="%s"' % (colour(w) if w <= len(MARKERS) else "white", colour(w))
-    corners = MARKERS[(w - 1) % len(MARKERS)]
+def marker(n, x, y):
+    """The mark of line n, from 0: eight shapes, filled for the first eight lines and open for others."""
+    look = 'fill="%s" stroke="%s"' % (colour(n) if n < len(MARKERS) else "white", colour(n))
+    corners = MARKERS[n % len(MARKERS)]
     if not corners:
         return '<circle cx="%.1f" cy="%.1f" r="3.8" %s/>' % (x, y, look)
     return '<polygon points="%s" %s/>' % (" ".join("%.1f,%.1f" % (x + 4 * i, y + 4 * j) for i, j in corners), look)

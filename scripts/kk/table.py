@@ -77,26 +77,28 @@ class Table:
 class Edge:
     """Where the fewest misses of a block size stand against the end of what was asked for.
 
-    `names` has smax where they stand at s = smax, and ways where they stand at w = ways. Then a larger cache may have fewer, and
-    nothing in the table tells. `falling`: a step back from that edge has more misses, so there the misses still fall; else the order
-    has one set count, or one number of ways, and no step back. `raisable` are the names whose limit lies higher.
+    Where a cache inside the grid has them, with fewer sets and fewer ways than the most asked for, more of either saved nothing, and
+    `names` is empty. Else they stand at the edge only, a larger cache may have fewer, and nothing in the table tells: `names` has smax
+    where the smallest such cache has s = smax, and ways where it has w = ways. `falling`: a step back from that edge has more misses;
+    else the order has one set count, or one number of ways, and no step back. `raisable` are the names whose limit lies higher.
     """
 
     def __init__(self, table, b):
         self.smax, self.ways = table.set_exponents[-1], table.ways[-1]
         _, s, w = self.cache = table.fewest(b)
+        fewest = [cache for cache in table.caches(b) if table.misses[cache] == table.misses[self.cache]]
+        inside = any(cache[1] < self.smax and cache[2] < self.ways for cache in fewest)
         at = {"smax": (s == self.smax, self.smax > 0, S_MOST), "ways": (w == self.ways, self.ways > 1, WAYS_MOST)}
-        self.names = [name for name, (there, _, _) in at.items() if there]
+        self.names = [name for name, (there, _, _) in at.items() if there and not inside]
         self.falling = any(at[name][1] for name in self.names)
-        self.raisable = [name for name in at if name in self.names and getattr(self, name) < at[name][2]]
+        self.raisable = [name for name in self.names if getattr(self, name) < at[name][2]]
 
     def advice(self):
         """What to raise, as the end of a sentence."""
         if self.raisable:
             return "raise " + " and ".join("%s (now %d)" % (name, getattr(self, name)) for name in self.raisable)
-        return "%s cannot be raised, so larger caches cannot be asked for here" % " and ".join(
-            "%s=%d" % (name, getattr(self, name)) for name in self.names
-        )
+        most = " and ".join("%s=%d" % (name, getattr(self, name)) for name in self.names)
+        return "%s %s the most" % (most, "is" if len(self.names) == 1 else "are")
 
 
 def head_number(lines, number, name):

@@ -1,4 +1,4 @@
-"""A table in words: a summary of a few sentences for each block size, and every cache where that is asked for."""
+"""A table in words: a summary of a few sentences, some more for each block size, and every cache where that is asked for."""
 from kk.table import Edge, several, size_of
 
 PLACES = {("smax", "ways"): "the largest cache asked for", ("smax",): "the most sets asked for", ("ways",): "the most ways asked for"}
@@ -10,12 +10,27 @@ def summary(table):
     lines.append("%s asked for: %s." % (several(len(table.misses), "cache"), grid(table)))
     if table.refs == 0:
         return lines + ["With no references there is nothing to compare."]
+    best = min((table.fewest(b) for b in table.block_sizes), key=table.misses.get)
+    lines.append("Fewest misses: blocks of %d bytes, %s." % (2 ** best[0], told(table, best)))
+    lines += what_matters(table)
     open_ended = [2**b for b in table.block_sizes if Edge(table, b).names]
     if open_ended:
-        lines.append("Not known because the order ends: the fewest misses, at blocks of %s bytes." % listed(open_ended))
+        where = "blocks of %s bytes" % listed(open_ended)
+        lines.append("Not known because the order ends: how far the misses fall on, at %s; what to raise is said below." % where)
     for b in table.block_sizes:
         lines += ["", "Blocks of %d bytes (b=%d):" % (2**b, b)] + ["  " + line for line in of_block_size(table, b)]
     return lines
+
+
+def what_matters(table):
+    """The span from where the first curve has bent to where the last is at its fewest, as no line or one."""
+    falling = [b for b in table.block_sizes if table.misses[table.fewest(b)] < max(table.misses[cache] for cache in table.caches(b))]
+    if not falling:
+        return []
+    first, last = min(size_of(bend_of(table, b)) for b in falling), max(size_of(table.near(b)) for b in falling)
+    sizes = "The size that matters is {:,} bytes" if first == last else "The sizes that matter are {:,} to {:,} bytes"
+    edges = "below, no block size has done nine tenths of its fall; there, each has a cache within 1% of its fewest misses asked for"
+    return ["%s: %s." % (sizes.format(first, last), edges)]
 
 
 def grid(table):
