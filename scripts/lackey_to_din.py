@@ -13,6 +13,7 @@ The exit status is 0 only where the recording is whole: 1 where the log has no r
 was ended, or put another in its place), or has lines of another process (the program started one). `--count` asks for no closing lines.
 """
 import argparse
+import os
 import re
 import sys
 
@@ -118,7 +119,8 @@ def main():
             more = window.write(converter.convert(chunk))
         sys.stdout.buffer.flush()
     except OSError as why:
-        sys.exit("lackey_to_din.py: %s" % why)
+        say("lackey_to_din.py: %s" % why)
+        os._exit(1)  # without a second try to write what could not be written
     say("%d other lines passed over" % converter.other_lines)
     say("%d different addresses were cut to their low 32 bits" % len(converter.high))
     say("%d references written" % window.written)
@@ -131,4 +133,7 @@ def main():
 
 
 if __name__ == "__main__":
-    main()
+    try:
+        main()
+    except KeyboardInterrupt:
+        sys.exit(130)

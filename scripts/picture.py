@@ -16,6 +16,7 @@ import argparse
 import sys
 
 from kk import svg, words
+from kk.program import NoAnswer, write_out
 from kk.table import Malformed, Table
 
 
@@ -47,7 +48,10 @@ def main():
         made = "\n".join(words.summary(table) + (words.every_cache(table) if chosen.all else []) + [""])
     else:
         made = svg.picture(table, chosen.misses, chosen.log, chosen.ways)
-    sys.stdout.buffer.write(made.encode())
+    try:
+        write_out(made.encode())
+    except NoAnswer as why:
+        sys.exit("picture.py: %s" % why)
 
 
 if __name__ == "__main__":

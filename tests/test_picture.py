@@ -151,6 +151,13 @@ class Words(unittest.TestCase):
         self.assertIn("The curve bends at 64 bytes (4 sets of 1 way, 18 misses", words)
         self.assertNotIn("Not known", words)
 
+    def test_a_full_disk(self):
+        with open("/dev/full", "w") as full:
+            command = [ROOT / "scripts/picture.py", "--words", ROOT / "tests/vectors/worked/worked_input.out"]
+            ended = subprocess.run(command, stdout=full, stderr=subprocess.PIPE, text=True)
+        self.assertEqual((ended.returncode, ended.stderr.count("\n")), (1, 1))
+        self.assertIn("standard output cannot be written", ended.stderr)
+
     def test_from_a_file(self):
         path = str(ROOT / "tests/vectors/worked/worked_input.out")
         self.assertEqual(picture("", "--words", path).stdout, WORDS)

@@ -66,6 +66,12 @@ class Converted(unittest.TestCase):
         self.assertEqual(convert(LOG, "-").stdout, DIN)
         self.assertEqual(convert("", "nowhere").returncode, 1)
 
+    def test_a_full_disk(self):
+        with open("/dev/full", "w") as full:
+            ended = subprocess.run([ROOT / "scripts/lackey_to_din.py"], input=LOG, stdout=full, stderr=subprocess.PIPE, text=True)
+        self.assertEqual((ended.returncode, ended.stderr.count("\n")), (1, 1))
+        self.assertIn("No space left", ended.stderr)
+
     def test_many(self):
         """Across the edges of what is read at once; a word at each million; and not slower than a microsecond a line."""
         times = 400000

@@ -45,6 +45,13 @@ class Tables(unittest.TestCase):
         self.assertEqual([list(cache) for cache in made["caches"]], [NAMES] * 24)
         self.assertEqual([list(cache.values()) for cache in made["caches"]], WANTED)
 
+    def test_a_full_disk(self):
+        with open("/dev/full", "w") as full:
+            command = [ROOT / "scripts/table", "--csv", ROOT / "tests/vectors/worked/worked_input.out"]
+            ended = subprocess.run(command, stdout=full, stderr=subprocess.PIPE, text=True)
+        self.assertEqual((ended.returncode, ended.stderr.count("\n")), (1, 1))
+        self.assertIn("standard output cannot be written", ended.stderr)
+
     def test_from_a_file(self):
         path = str(ROOT / "tests/vectors/worked/worked_input.out")
         self.assertEqual(table("", "--csv", path).stdout, table(WORKED, "--csv", "-").stdout)

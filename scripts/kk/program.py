@@ -152,6 +152,7 @@ def answer(program, given):
 
 
 def write_out(printed):
+    """Writes all to standard output, or says why not."""
     try:
         view = memoryview(printed)
         while view:
@@ -159,7 +160,7 @@ def write_out(printed):
     except BrokenPipeError:
         sys.exit(NO_ANSWER)  # the reader has gone, and knows it
     except OSError as why:
-        raise NoAnswer("the output is not whole, standard output cannot be written: %s" % why.strerror)
+        raise NoAnswer("the output is not whole; standard output cannot be written: %s" % why.strerror)
 
 
 def failed(script, why):
