@@ -2,8 +2,9 @@
 """Holds docs/MAP.md to docs/SCOPE.md and to the repository.
 
 Every named sentence of SCOPE has its row, every name in the map is there (in the page that the map gives for it), and every
-must-fail edit has a row. Also: each citation of SCOPE, in the whole repository, names a section or a sentence that it has. What is
-gone is listed whole, so that one run tells all that a change has to mend.
+must-fail edit has a row. Also of the other pages: each citation of SCOPE, in the whole repository, names a section or a sentence that
+it has; the table of crates in docs/DESIGN.md is that of crates.txt; links lead somewhere. What is gone is listed whole, so that one
+run tells all that is to be mended.
 """
 import pathlib
 import re
@@ -31,6 +32,28 @@ def page(crate, name):
         if path.is_file():
             return set(DEFINED.findall(path.read_text()))
     return None
+
+
+def vocabulary():
+    """The vectors, the names that are defined or declared in the crates, and all the words there."""
+    pages, sources = ([path.read_text() for path in files(ending)] for ending in ("antt", "rt"))
+    names = {name for text in pages for name in DEFINED.findall(text)}
+    names |= {name for text in sources for name in DECLARED.findall(text)}
+    names |= {path.stem for path in ROOT.glob("tests/vectors/*/*.in")}
+    names |= {path.name for path in ROOT.glob("crates/*")} | {"ensures"}
+    return names, re.sub(r"\s+", " ", " ".join(pages + sources))
+
+
+NAMES, WORDS = vocabulary()
+
+
+def unknown(text):
+    """What is quoted in a text and is neither a name (a star stands for any end of it) nor the very words of a page or a source."""
+    for name in re.findall(r"`([^`\n]+)`", text):
+        pattern = re.escape(name).replace(r"\*", ".*")
+        if not (set(name.split("::")) <= NAMES or "*" in name and any(re.fullmatch(pattern, one) for one in NAMES)):
+            if not (" " in name and name in WORDS):
+                yield name
 
 
 class Map(unittest.TestCase):
@@ -85,26 +108,28 @@ class Map(unittest.TestCase):
         self.assertEqual(gone, [])
 
     def test_everything_quoted_is_there(self):
-        """A vector, a name that is defined, or the very words of a page or a source."""
-        pages, sources = ([path.read_text() for path in files(ending)] for ending in ("antt", "rt"))
-        known = {name for text in pages for name in DEFINED.findall(text)}
-        known |= {name for text in sources for name in DECLARED.findall(text)}
-        known |= {"ensures"}
-        vectors = [path.stem for path in ROOT.glob("tests/vectors/*/*.in")]
-        words = re.sub(r"\s+", " ", " ".join(pages + sources))
-        gone = []
-        for row in ROWS:
-            for name in re.findall(r"`([^`]+)`", " | ".join(row[1:])):
-                pattern = re.escape(name).replace(r"\*", ".*")
-                if any(re.fullmatch(pattern, vector) for vector in vectors) or set(name.split("::")) <= known:
-                    continue
-                if not (" " in name and name in words):
-                    gone.append("%s: %s" % (row[0], name))
+        gone = ["%s: %s" % (row[0], name) for row in ROWS for name in unknown(" | ".join(row[1:]))]
         self.assertEqual(gone, [])
 
 
-class Citations(unittest.TestCase):
+class Pages(unittest.TestCase):
     maxDiff = None
+
+    def test_the_table_has_every_crate(self):
+        listed = re.findall(r"^(\w+):", (ROOT / "crates.txt").read_text(), re.MULTILINE)
+        shown = re.findall(r"^\| \[(\w+)\]\(../crates/\w+\) \|", (ROOT / "docs/DESIGN.md").read_text(), re.MULTILINE)
+        self.assertEqual(shown, listed)
+
+    def test_what_is_quoted_is_there(self):
+        for name in ("DESIGN", "OPEN-CASES"):
+            self.assertEqual(list(unknown((ROOT / "docs" / (name + ".md")).read_text())), [], name)
+
+    def test_each_link_leads_somewhere(self):
+        gone = []
+        for path in [ROOT / "README.md", *ROOT.glob("docs/**/*.md"), *ROOT.glob("*/README.md")]:
+            links = re.findall(r"\]\((?!https?:)([^)#]+)", path.read_text())
+            gone += ["%s: %s" % (path.relative_to(ROOT), link) for link in links if not (path.parent / link).exists()]
+        self.assertEqual(gone, [])
 
     def test_what_is_cited_is_there(self):
         """SCOPE, "Section", or SCOPE and the name of a sentence."""

@@ -1,11 +1,15 @@
 #!/usr/bin/env python3
 """Checks simulator.py and library_model.py against the numbers of docs/SCOPE.md, and against each other."""
+import pathlib
 import random
+import re
 import unittest
 
 import library_model as library
 import simulator
 
+ROOT = pathlib.Path(__file__).resolve().parent.parent
+SCOPE = (ROOT / "docs/SCOPE.md").read_text()
 WORKED = [0x0, 0x10, 0x20, 0x0, 0x14, 0x40, 0x0, 0x20]
 ORDER = (4, 5, 2, 4, 8, 100)
 GRID = {  # misses of w = 1, 2, 3, 4, by (b, s)
@@ -21,6 +25,32 @@ def opened(order, addresses):
         assert answer == 0
         answer, state, stack, counts = library.take(state, stack, counts, address)
     return answer, state, stack, counts
+
+
+class Printed(unittest.TestCase):
+    """What docs/SCOPE.md prints, and what others print of it."""
+
+    def test_worked_input(self):
+        """The input on the left gives the output on the right, in SCOPE.md and in README.md."""
+        for page in (SCOPE, (ROOT / "README.md").read_text()):
+            lines = re.search(r"(?m)(?:^    .*\n)+", page[page.index("    bmin=4  ") :]).group().splitlines()
+            pairs = [re.fullmatch(r"    (\S+(?: \S+)?)(?: {2,}(\S.*))?", line).groups() for line in lines]
+            data, printed = ("".join(half + "\n" for half in halves if half).encode() for halves in zip(*pairs))
+            self.assertEqual(simulator.sweep(data), printed)
+            self.assertEqual(data, (ROOT / "tests/vectors/worked/worked_input.in").read_bytes())
+
+    def test_grid(self):
+        rows = re.findall(r"(?m)^\| (4|5) \| ([\d ]+) \| ([\d ]+) \| ([\d ]+) \|$", SCOPE)
+        printed = {(int(b), s): list(map(int, cell.split())) for b, *cells in rows for s, cell in enumerate(cells)}
+        self.assertEqual(printed, GRID)
+
+    def test_refusal_numbers(self):
+        """The numbers of SCOPE's table are those of the code, and README.md has advice for each refusal."""
+        printed = [int(number) for number in re.findall(r"(?m)^\| \*\*R\d+\*\* \| (\d+) \|", SCOPE)]
+        coded = re.findall(r"pub const \w+: u32 = (\d+);", (ROOT / "crates/units/src/refusal.rt").read_text())
+        self.assertEqual(sorted(map(int, coded)), printed)
+        advised = re.findall(r"(?m)^\| (\d+) \|", (ROOT / "README.md").read_text())
+        self.assertEqual(list(map(int, advised)), printed[1:])
 
 
 class WorkedTrace(unittest.TestCase):
