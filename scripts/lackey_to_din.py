@@ -19,7 +19,7 @@ import sys
 
 LACKEY_LINE = re.compile(rb"(I | L| S| M) ([0-9a-f]+),[0-9]+")
 LABELS = {b"I ": (2,), b" L": (0,), b" S": (1,), b" M": (0, 1)}
-TOLD_BY_VALGRIND = re.compile(rb"==([0-9]+)==(?:.*\bguest instrs: +([0-9,]+)|( Exit code:).*|.*)", re.DOTALL)
+TOLD_BY_VALGRIND = re.compile(rb"(?:==|--|\*\*)([0-9]+)(?:==|--|\*\*)(?:.*\bguest instrs: +([0-9,]+)|( Exit code:).*|.*)", re.DOTALL)
 CHUNK = 1 << 22
 MANY = 1 << 20  # different lines kept in mind
 MILLION = 1000000
@@ -110,10 +110,12 @@ def main():
     parser.add_argument("--skip", type=int, default=0, metavar="N", help="leave out the first N references")
     parser.add_argument("--count", type=int, metavar="N", help="stop after N references")
     chosen = parser.parse_args()
+    if chosen.skip < 0 or chosen.count is not None and chosen.count < 1:
+        parser.error("--skip is at least 0, and --count at least 1")
     converter, window = Converter(), Window(chosen.skip, chosen.count)
     try:
         log = sys.stdin.buffer if chosen.log == "-" else open(chosen.log, "rb")
-        chunk, more = b"-", window.left != 0
+        chunk, more = b"-", True
         while chunk and more:
             chunk = log.read1(CHUNK)
             more = window.write(converter.convert(chunk))

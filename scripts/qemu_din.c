@@ -153,6 +153,7 @@ static void on_call_back(uint64_t id, unsigned cpu, int64_t number, int64_t answ
 static void on_end(uint64_t id, void *data)
 {
     (void)id, (void)data;
+    pthread_mutex_lock(&lock); /* for good: other threads that still run add nothing after the end */
     flush();
     if (!silent)
         tell("end", written);

@@ -32,15 +32,19 @@ class Converted(unittest.TestCase):
         for said in ("8 other lines", "1 different addresses were cut", "6 references written"):
             self.assertIn(said, ended.stderr)
         self.assertEqual(convert(LOG[:-1]).returncode, 0)
+        warned = convert(OPENING + "--7-- WARNING: unhandled\n" + TRACE + "**7** a word\n==7== Warning\n" + CLOSING.format(2))
+        self.assertEqual((warned.returncode, warned.stdout), (0, DIN))
 
     def test_window(self):
         lines = DIN.splitlines(True)
         for skip in range(8):
-            for count in range(8):
+            for count in range(1, 8):
                 ended = convert(LOG, "--skip", str(skip), "--count", str(count))
                 self.assertEqual(ended.stdout, "".join(lines[skip : skip + count]))
                 self.assertEqual(ended.returncode, 0 if ended.stdout else 1)
             self.assertEqual(convert(LOG, "--skip", str(skip)).stdout, "".join(lines[skip:]))
+        for wrong in (("--skip", "-1"), ("--count", "0")):
+            self.assertEqual(convert(LOG, *wrong).returncode, 2)
         self.assertEqual(convert(OPENING + TRACE, "--count", "6").returncode, 0)
         self.assertEqual(convert(OPENING + TRACE, "--count", "7").returncode, 1)
 
@@ -136,6 +140,7 @@ class Recorded(unittest.TestCase):
     def test_help_and_wrong_use(self):
         self.assertEqual(self.record("--help").returncode, 0)
         self.assertEqual(self.record().returncode, 2)
+        self.assertEqual(self.record("--count", "0", "true").returncode, 2)
 
     @unittest.skipUnless(shutil.which("valgrind"), "valgrind is not installed")
     def test_valgrind(self):

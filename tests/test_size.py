@@ -17,9 +17,9 @@ import tempfile
 import unittest
 
 import simulator
+import standin
 
 ROOT = pathlib.Path(__file__).resolve().parent.parent
-BUILT = ROOT / "target/bin/sweep"
 TRACE = (ROOT / "tests/vectors/worked/worked_input.in").read_bytes().partition(b"begin=din\n")[2]
 
 
@@ -33,9 +33,7 @@ class Size(unittest.TestCase):
         folder = tempfile.TemporaryDirectory()
         self.addCleanup(folder.cleanup)
         self.folder = pathlib.Path(folder.name)
-        self.program = self.folder / "program"
-        self.program.write_text('#!/bin/sh\nexec "%s" "%s" sweep\n' % (sys.executable, ROOT / "tests/simulator.py"))
-        self.program.chmod(0o755)
+        self.program = standin.script(self.folder / "program", standin.SIMULATOR)
 
     def size(self, *words, data=TRACE, name=None, **more):
         path = self.folder / (name or "trace.din")
@@ -171,10 +169,10 @@ class Size(unittest.TestCase):
         self.assertEqual(ended.returncode, 0)
         self.assertIn("up to 32K", ended.stdout)
 
-    @unittest.skipUnless(BUILT.exists(), "the program is not built")
+    @unittest.skipUnless(standin.built_runs(), "the program is not built, or cannot be run here")
     def test_the_program(self):
         wanted = self.size("16..32").stdout
-        self.program = BUILT
+        self.program = standin.BUILT
         ended = self.size("16..32")
         self.assertEqual((ended.returncode, ended.stdout), (0, wanted))
 

@@ -7,15 +7,14 @@ import gzip
 import os
 import pathlib
 import subprocess
-import sys
 import tempfile
 import unittest
 
 import inputs
 import simulator
+import standin
 
 ROOT = pathlib.Path(__file__).resolve().parent.parent
-BUILT = ROOT / "target/bin/sweep"
 WORKED = (ROOT / "tests/vectors/worked/worked_input.in").read_bytes()
 HEAD, _, TRACE = WORKED.partition(b"begin=din\n")
 HEAD += b"begin=din\n"
@@ -26,13 +25,10 @@ class Sweep(unittest.TestCase):
         folder = tempfile.TemporaryDirectory()
         self.addCleanup(folder.cleanup)
         self.folder = pathlib.Path(folder.name)
-        self.program = self.stub('exec "%s" "%s" sweep' % (sys.executable, ROOT / "tests/simulator.py"))
+        self.program = self.stub(standin.SIMULATOR)
 
     def stub(self, text):
-        path = self.folder / "program"
-        path.write_text("#!/bin/sh\n%s\n" % text)
-        path.chmod(0o755)
-        return path
+        return standin.script(self.folder / "program", text)
 
     def sweep(self, data=b"", name="-", out=subprocess.PIPE, **more):
         command = [ROOT / "scripts/sweep", "--program", self.program, name]
@@ -156,8 +152,7 @@ class Sweep(unittest.TestCase):
             ("echo rt: lists proved; sleep 1; mkdir -p target/bin; cp %s target/bin/sweep" % self.program, 0, "  lists proved\n"),
             ("echo it cannot be; exit 1", 3, "build.log ends:\n  it cannot be\n"),
         ]:
-            (self.folder / "rt").write_text("#!/bin/sh\n%s\n" % rt)
-            (self.folder / "rt").chmod(0o755)
+            standin.script(self.folder / "rt", rt)
             ways = {**os.environ, "PATH": "%s:%s" % (self.folder, os.environ["PATH"])}
             ended = subprocess.run([copy / "scripts/sweep", copy / "input"], capture_output=True, env=ways)
             self.assertEqual(ended.returncode, status, ended)
@@ -168,9 +163,9 @@ class Sweep(unittest.TestCase):
                 (copy / "target/bin/sweep").unlink()
         self.assertEqual(self.program.read_text(), program)
 
-    @unittest.skipUnless(BUILT.exists(), "the program is not built")
+    @unittest.skipUnless(standin.built_runs(), "the program is not built, or cannot be run here")
     def test_the_program(self):
-        self.program = BUILT
+        self.program = standin.BUILT
         self.assertEqual(self.both(WORKED), (0, simulator.sweep(WORKED), ""))
         self.expect_refused(WORKED + b"2 0x1\n", "refused with 11 at line 16", "the line: 2 0x1")
         for name, data in list(inputs.fixed_inputs())[:3]:

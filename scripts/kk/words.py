@@ -11,14 +11,14 @@ def summary(table):
     if table.refs == 0:
         return lines + ["With no references there is nothing to compare."]
     best = min((table.fewest(b) for b in table.block_sizes), key=table.misses.get)
-    lines.append("Fewest misses: blocks of %d bytes, %s." % (2 ** best[0], told(table, best)))
+    lines.append("Fewest misses: blocks of {:,} bytes, {}.".format(2 ** best[0], told(table, best)))
     lines += what_matters(table)
     open_ended = [2**b for b in table.block_sizes if Edge(table, b).names]
     if open_ended:
         where = "blocks of %s bytes" % listed(open_ended)
         lines.append("Not known because the order ends: how far the misses fall on, at %s; what to raise is said below." % where)
     for b in table.block_sizes:
-        lines += ["", "Blocks of %d bytes (b=%d):" % (2**b, b)] + ["  " + line for line in of_block_size(table, b)]
+        lines += ["", "Blocks of {:,} bytes (b={}):".format(2**b, b)] + ["  " + line for line in of_block_size(table, b)]
     return lines
 
 
@@ -93,6 +93,6 @@ def every_cache(table):
     """Each cache of the order in a line, smallest first at each block size."""
     lines = []
     for b in table.block_sizes:
-        lines += ["", "Every cache with blocks of %d bytes (b=%d):" % (2**b, b)]
+        lines += ["", "Every cache with blocks of {:,} bytes (b={}):".format(2**b, b)]
         lines += ["  %s" % told(table, cache) for cache in table.caches(b)]
     return lines
