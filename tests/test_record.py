@@ -7,6 +7,7 @@ gcc-arm-linux-gnueabihf), and on this machine's own where its qemu is; what is l
 import os
 import pathlib
 import platform
+import re
 import shutil
 import subprocess
 import tempfile
@@ -182,6 +183,12 @@ words: .word 1, 2, 3, 4
 """
 ARM_TOOLS = ["qemu-arm", "gcc", "arm-linux-gnueabihf-gcc"]
 OWN = "qemu-" + platform.machine()
+BOTH_WAYS = ["valgrind", OWN, "gcc", "nm"]
+OWN_PROGRAM = """\
+static volatile unsigned words[256];
+__attribute__((noinline)) void work(void) { for (int turn = 0; turn < 1000; turn++) words[turn * 7 % 256] += turn; }
+int main(void) { work(); return 0; }
+"""
 
 
 class ByQemu(unittest.TestCase):
@@ -223,6 +230,22 @@ class ByQemu(unittest.TestCase):
         self.assertEqual(ended.returncode, 0)
         self.assertIn("a word\n", ended.stderr)
         self.assertIn("the program ended with status 3", ended.stderr)
+
+    @unittest.skipUnless(all(map(shutil.which, BOTH_WAYS)), "one of %s is not installed" % ", ".join(BOTH_WAYS))
+    def test_both_ways(self):
+        """What a program itself fetches is the same by lackey and by qemu, whatever its start does (docs/RECORDING.md)."""
+        source, program = self.write("own.c", OWN_PROGRAM), self.folder / "own"
+        subprocess.run(["gcc", "-O1", "-static", "-no-pie", "-fno-pie", "-o", program, source], check=True)
+        symbols = subprocess.run(["nm", "-S", program], stdout=subprocess.PIPE, text=True).stdout
+        start, size = (int(word, 16) for word in re.search(r"^(\w+) (\w+) T work$", symbols, re.MULTILINE).groups())
+        fetched = []
+        for way in ("lackey", "qemu"):
+            ended = self.record("--by", way, str(program))
+            self.assertEqual(ended.returncode, 0, ended.stderr)
+            addresses = [int(line[2:], 16) for line in ended.stdout.splitlines() if line[0] == "2"]
+            fetched.append([address for address in addresses if start <= address < start + size])
+        self.assertGreater(len(fetched[0]), 1000)
+        self.assertTrue(fetched[0] == fetched[1])
 
     @unittest.skipUnless(shutil.which(OWN) and shutil.which("gcc"), "%s or gcc is not installed" % OWN)
     def test_a_full_disk(self):

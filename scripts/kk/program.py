@@ -1,5 +1,6 @@
 """Finding, building and running the sweep program, and the exit status that the kit gives no program."""
 import collections
+import contextlib
 import os
 import pathlib
 import stat
@@ -93,13 +94,12 @@ class Input:
 
     def feed(self, pipe):
         """Writes all to the program, or as much as it takes."""
-        try:
+        with contextlib.suppress(BrokenPipeError):
             for chunk in self.chunks:
                 self.keep(chunk)
                 pipe.write(chunk)
+        with contextlib.suppress(BrokenPipeError):
             pipe.close()
-        except BrokenPipeError:
-            pass
 
     def keep(self, chunk):
         """Keeps a chunk in mind, and says whether there was one."""
