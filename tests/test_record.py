@@ -10,6 +10,7 @@ import platform
 import re
 import shutil
 import subprocess
+import sys
 import tempfile
 import time
 import unittest
@@ -103,7 +104,7 @@ class Recorded(unittest.TestCase):
 
     def record(self, *words, path=None):
         ways = {**os.environ, "PATH": path or "%s:%s" % (self.folder, os.environ["PATH"])}
-        return subprocess.run([shutil.which("python3"), ROOT / "scripts/record", *words], capture_output=True, text=True, env=ways)
+        return subprocess.run([sys.executable, ROOT / "scripts/record", *words], capture_output=True, text=True, env=ways)
 
     def stub(self, log):
         """A valgrind that writes this log, and what it was called with to standard output."""
