@@ -159,7 +159,13 @@ class Size(unittest.TestCase):
         command = [ROOT / "scripts/size", "--program", self.program, self.folder / "trace.din", "16..16"]
         subprocess.run(command, stdout=subprocess.PIPE, stderr=end)
         os.close(end)
-        said = os.read(terminal, 65536).decode()
+        said, more = "", True
+        while more:
+            try:
+                more = os.read(terminal, 65536).decode()
+                said += more
+            except OSError:  # how a terminal ends
+                more = ""
         os.close(terminal)
         self.assertRegex(said, r"counting blocks: 8 lines, [0-9,]+ a second, done")
         self.assertRegex(said, r"sweeping: 8 lines, [0-9,]+ a second, done")
