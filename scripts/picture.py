@@ -1,310 +1,57 @@
 #!/usr/bin/env python3
 """Turns a table printed by the sweep program (edition 1) into a picture, or into words.
 
-    scripts/picture.py [--misses] [--log] <TABLE >FILE.svg    a picture: miss ratio, or misses, against cache size
-    scripts/picture.py --words <TABLE                         the same facts as plain text
+    scripts/picture.py [--misses] [--log] [--ways LIST] [TABLE] >FILE.svg
+                a picture: miss ratio, or misses, against cache size
+    scripts/picture.py --words [--all] [TABLE]
+                a summary as plain text; with --all every cache too
 
-The picture has a panel for each block size and a line for each number of ways. All panels share their scales. Lines
-differ in marker and dashes as well as in colour, and each is labelled. `--log` makes the upright scale a log scale, which
-parts the lines where misses are few. The facts in words are in the picture too, as its description. A refusal line and a
-malformed table are refused, with a message and status 1.
+TABLE is a file; `-`, or none, is standard input. The picture has a panel for each block size and a line for each number of ways; of more
+than five ways the powers of two and the last, or those of `--ways 1,2,8`. All panels share their scales. Lines differ in marker and
+dashes as well as in colour, and each is labelled. `--log` makes the upright scale a log scale, which parts the lines where misses are
+few. Where the fewest misses stand at the edge of the order, both say that the misses are still falling there, and what to raise. The
+summary is in the picture too, as its description. A refusal line and a malformed table are refused, with a message and status 1.
 """
 import argparse
-import itertools
-import math
-import re
 import sys
-from xml.sax.saxutils import escape
 
-NUMBER = "(0|[1-9][0-9]{0,9})"
-GRID_LINE = re.compile("b=%s s=%s w=%s misses=%s" % ((NUMBER,) * 4))
-
-
-class Malformed(Exception):
-    """Why a table cannot be read."""
+from kk import svg, words
+from kk.program import NoAnswer, write_out
+from kk.table import Malformed, Table
 
 
-class Table:
-    """The counts of a printed table. `misses` maps (b, s, w) to a count."""
-
-    def __init__(self, text):
-        lines = text.split("\n")
-        if text.startswith("refused="):
-            raise Malformed("there is no table: the program printed %s" % lines[0])
-        if lines.pop() != "":
-            raise Malformed("the last line lacks its line end: the table may be cut off")
-        if head_number(lines, 1, "edition") != 1:
-            raise Malformed("line 1: only edition 1 can be read")
-        self.refs = head_number(lines, 2, "refs")
-        self.skipped = head_number(lines, 3, "skipped")
-        self.misses = {}
-        for number, line in enumerate(lines[3:], 4):
-            found = GRID_LINE.fullmatch(line)
-            if not found:
-                raise Malformed("line %d is no line of a table: %r" % (number, line))
-            b, s, w, misses = map(int, found.groups())
-            if not (2 <= b <= 12 and s <= 14 and 1 <= w <= 16):
-                raise Malformed("line %d: no order has this cache" % number)
-            if misses > self.refs:
-                raise Malformed("line %d: more misses than references" % number)
-            self.misses.setdefault((b, s, w), misses)
-        if not self.misses:
-            raise Malformed("the table names no cache")
-        first, last = min(self.misses), max(self.misses)
-        self.block_sizes = range(first[0], last[0] + 1)
-        self.set_exponents = range(last[1] + 1)
-        self.ways = range(1, last[2] + 1)
-        whole_grid = list(itertools.product(self.block_sizes, self.set_exponents, self.ways))
-        if list(self.misses) != whole_grid or len(lines) != 3 + len(whole_grid):
-            raise Malformed("the lines are not the whole grid, b, then s, then w upward")
-
-    def caches(self, b):
-        """The caches of one block size, smallest first, and of one size those with fewest ways first."""
-        grid = itertools.product([b], self.set_exponents, self.ways)
-        return sorted(grid, key=lambda cache: (size_of(cache), cache[2]))
-
-
-def head_number(lines, number, name):
-    found = re.fullmatch("%s=%s" % (name, NUMBER), lines[number - 1]) if len(lines) >= number else None
-    if not found:
-        raise Malformed("line %d is not %s= and a number" % (number, name))
-    return int(found.group(1))
-
-
-def size_of(cache):
-    """The bytes that a cache holds."""
-    b, s, w = cache
-    return 2**b * 2**s * w
-
-
-def several(number, thing, ending="s"):
-    return "{:,} {}{}".format(number, thing, "" if number == 1 else ending)
-
-
-# The facts in words.
-
-
-def facts(table):
-    """The facts, a list of lines."""
-    lines = ["%s taken, %s skipped." % (several(table.refs, "reference"), several(table.skipped, "line"))]
-    if table.refs == 0:
-        return lines + ["With no references there is nothing to compare."]
-    for b in table.block_sizes:
-        lines += ["", "Blocks of %d bytes (b=%d):" % (2**b, b)] + facts_of_block_size(table, b)
-    return lines
-
-
-def facts_of_block_size(table, b):
-    def told(cache):
-        misses = table.misses[cache]
-        sets, ways = several(2 ** cache[1], "set"), several(cache[2], "way")
-        return "%s of %s, %s, ratio %.6f" % (sets, ways, several(misses, "miss", "es"), misses / table.refs)
-
-    least, near = least_cache(table, b), near_cache(table, b)
-    worst = max(table.caches(b), key=table.misses.get)
-    lines = [
-        "  Most misses: {:,} bytes ({}).".format(size_of(worst), told(worst)),
-        "  The misses stop falling at {:,} bytes ({}).".format(size_of(least), told(least)),
-        "  Smallest cache within 1% of the fewest misses: {:,} bytes ({}).".format(size_of(near), told(near)),
-        "  Fewest misses at each size (of equals the one with fewest ways):",
-    ]
-    for size, caches in itertools.groupby(table.caches(b), key=size_of):
-        lines.append("    {:,} bytes: {}".format(size, told(min(caches, key=table.misses.get))))
-    return lines
-
-
-def least_cache(table, b):
-    """The smallest cache with the fewest misses."""
-    return min(table.caches(b), key=table.misses.get)
-
-
-def near_cache(table, b):
-    """The smallest cache whose misses are at most 1% above the fewest."""
-    fewest = table.misses[least_cache(table, b)]
-    return next(cache for cache in table.caches(b) if 100 * table.misses[cache] <= 101 * fewest)
-
-
-# The picture. Lengths are in pixels, y downward.
-
-PLOT_WIDTH, PLOT_HEIGHT = 460, 270
-LEFT, RIGHT, TOP, BOTTOM = 78, 104, 66, 58
-PANEL_WIDTH, PANEL_HEIGHT = LEFT + PLOT_WIDTH + RIGHT, TOP + PLOT_HEIGHT + BOTTOM
-HEADING = 64
-LABEL_STEP = 15
-COLOURS = ["#0072b2", "#d55e00", "#007a59", "#b0508a", "#000000", "#8a6d00", "#3d8fc6", "#767676"]
-DASHES = ["none", "8 3", "2 3", "9 3 2 3"]
-MARKERS = [  # corners, in a square from -1 to 1; the circle has none
-    [],
-    [(-0.9, -0.9), (0.9, -0.9), (0.9, 0.9), (-0.9, 0.9)],
-    [(0, -1.1), (1, 0.8), (-1, 0.8)],
-    [(0, -1.2), (1.2, 0), (0, 1.2), (-1.2, 0)],
-    [(0, 1.1), (1, -0.8), (-1, -0.8)],
-    [(-0.5, -1.2), (0.5, -1.2), (0.5, 1.2), (-0.5, 1.2)],
-    [(-1.2, -0.5), (1.2, -0.5), (1.2, 0.5), (-1.2, 0.5)],
-    [(-1.1, -1.1), (1.1, 1.1), (1.1, -1.1), (-1.1, 1.1)],
-]
-
-
-def picture(table, show_misses=False, log_scale=False):
-    """The picture, as the text of an SVG file."""
-    heading = "%s of LRU caches against their size" % ("Misses" if show_misses else "Miss ratio")
-    columns = min(2, len(table.block_sizes))
-    width = max(columns * PANEL_WIDTH, 560)
-    height = HEADING + math.ceil(len(table.block_sizes) / columns) * PANEL_HEIGHT
-    scales = Scales(table, show_misses, log_scale)
-    parts = [
-        '<svg xmlns="http://www.w3.org/2000/svg" width="%d" height="%d" viewBox="0 0 %d %d"' % ((width, height) * 2)
-        + ' role="img" aria-labelledby="title desc" font-family="sans-serif" font-size="13">',
-        '<title id="title">%s</title>' % heading,
-        '<desc id="desc">%s</desc>' % escape("\n".join(facts(table))),
-        '<rect width="100%" height="100%" fill="white"/>',
-        text(16, 28, heading, size=19, weight="bold"),
-        text(16, 50, facts(table)[0]),
-    ]
-    for place, b in enumerate(table.block_sizes):
-        row, column = divmod(place, columns)
-        parts.append('<g transform="translate(%d %d)">' % (column * PANEL_WIDTH, HEADING + row * PANEL_HEIGHT))
-        parts += panel(table, b, scales) + ["</g>"]
-    return "\n".join(parts + ["</svg>", ""])
-
-
-class Scales:
-    """Where a size and a count stand in a panel. All panels share them."""
-
-    def __init__(self, table, show_misses, log_scale):
-        octaves = [math.log2(size_of(cache)) for cache in table.misses]
-        self.first_octave = math.floor(min(octaves))
-        self.octaves = max(1, math.ceil(max(octaves)) - self.first_octave)
-        self.unit = 1 if show_misses else table.refs
-        self.name = "misses" if show_misses else "miss ratio"
-        shown = [max(misses, 1) / self.unit for misses in table.misses.values()]
-        self.height_of = math.log10 if log_scale else float
-        self.ticks = log_ticks(min(shown), max(shown)) if log_scale else even_ticks(max(shown), show_misses)
-
-    def x(self, size):
-        return LEFT + (math.log2(size) - self.first_octave) / self.octaves * PLOT_WIDTH
-
-    def y(self, value):
-        low, high = self.height_of(self.ticks[0]), self.height_of(self.ticks[-1])
-        height = self.height_of(max(value, self.ticks[0]))
-        return TOP + PLOT_HEIGHT * (1 - (height - low) / (high - low))
-
-
-def log_ticks(lowest, highest):
-    """Powers of ten around all values."""
-    first, last = math.floor(math.log10(lowest)), math.ceil(math.log10(highest))
-    return [float("1e%d" % power) for power in range(first, max(last, first + 1) + 1)]
-
-
-def even_ticks(highest, whole):
-    """From 0 to `highest` or just above, 1, 2 or 5 times a power of ten apart."""
-    for power in range(0 if whole else -10, 11):
-        for step in (1, 2, 5):
-            if highest <= 5 * step * 10**power:
-                return [float("%de%d" % (mark * step, power)) for mark in range(math.ceil(highest / step / 10**power) + 1)]
-
-
-def panel(table, b, scales):
-    near = near_cache(table, b)
-    at = scales.x(size_of(near))
-    floor = TOP + PLOT_HEIGHT
-    caption = "▼ smallest within 1%% of the fewest misses: {:,} bytes (s=%d w=%d)".format(size_of(near)) % near[1:]
-    parts = [
-        text(LEFT, 20, "Blocks of %d bytes (b=%d)" % (2**b, b), size=16, weight="bold"),
-        text(LEFT, 39, caption),
-        *axes(scales),
-        '<path d="M%.1f %dV%d" stroke="#555" stroke-dasharray="3 3"/>' % (at, TOP - 6, floor),
-        '<path d="M%.1f %dl-5 -9h10z"/>' % (at, TOP),
-    ]
-    ends = []
-    for w in table.ways:
-        caches = [(b, s, w) for s in table.set_exponents]
-        places = [(scales.x(size_of(cache)), scales.y(table.misses[cache] / scales.unit)) for cache in caches]
-        parts.append(
-            '<polyline points="%s" fill="none" stroke="%s" stroke-width="1.6" stroke-dasharray="%s"/>'
-            % (" ".join("%.1f,%.1f" % place for place in places), colour(w), DASHES[(w - 1) % len(DASHES)])
-        )
-        parts += [marker(w, *place) for place in places]
-        ends.append((places[-1][1], w, places[-1][0]))
-    return parts + labels(sorted(ends))
-
-
-def axes(scales):
-    floor, right = TOP + PLOT_HEIGHT, LEFT + PLOT_WIDTH
-    parts = [text(LEFT - 66, TOP - 11, scales.name)]
-    for tick in scales.ticks:
-        parts.append('<path d="M%d %.1fH%d" stroke="#ddd"/>' % (LEFT, scales.y(tick), right))
-        parts.append(text(LEFT - 8, scales.y(tick) + 4, short_count(tick), anchor="end"))
-    every = math.ceil(scales.octaves / 8)
-    for octave in range(scales.octaves + 1):
-        x = scales.x(2 ** (scales.first_octave + octave))
-        parts.append('<path d="M%.1f %dv%d" stroke="black"/>' % (x, floor, 6 if octave % every == 0 else 3))
-        if octave % every == 0:
-            parts.append(text(x, floor + 21, short_size(scales.first_octave + octave), anchor="middle"))
-    parts.append('<path d="M%d %dV%dH%d" fill="none" stroke="black"/>' % (LEFT, TOP, floor, right))
-    parts.append(text(LEFT + PLOT_WIDTH / 2, floor + 42, "cache size (log scale)", anchor="middle"))
-    return parts
-
-
-def short_count(number):
-    """A count or a ratio at a tick mark; 40 M for 40 million."""
-    return "{:,.10g}".format(number) if number < 10**7 else "{:,.10g} M".format(number / 10**6)
-
-
-def short_size(exponent):
-    """2^exponent bytes, as 64 B, 4 KiB or 1 MiB."""
-    return "%d %s" % (2 ** (exponent % 10), ["B", "KiB", "MiB"][exponent // 10])
-
-
-def labels(ends):
-    """A label for each line, beside the plot, in the order of the lines' ends, joined to them by a thin line."""
-    column = LEFT + PLOT_WIDTH + 20
-    places, last = [], -math.inf
-    for y, _, _ in ends:
-        last = max(y, last + LABEL_STEP)
-        places.append(last)
-    for back, number in enumerate(reversed(range(len(places)))):
-        places[number] = min(places[number], TOP + PLOT_HEIGHT - back * LABEL_STEP)
-    parts = []
-    for place, (y, w, x) in zip(places, ends):
-        parts.append('<path d="M%.1f %.1fL%d %.1f" stroke="#999" stroke-width="0.6"/>' % (x, y, column, place))
-        parts += [marker(w, column + 6, place), text(column + 16, place + 4, several(w, "way"))]
-    return parts
-
-
-def colour(w):
-    return COLOURS[(w - 1) % len(COLOURS)]
-
-
-def marker(w, x, y):
-    """The mark of w ways: eight shapes, filled up to 8 ways and open above."""
-    look = 'fill="%s" stroke="%s"' % (colour(w) if w <= len(MARKERS) else "white", colour(w))
-    corners = MARKERS[(w - 1) % len(MARKERS)]
-    if not corners:
-        return '<circle cx="%.1f" cy="%.1f" r="3.8" %s/>' % (x, y, look)
-    return '<polygon points="%s" %s/>' % (" ".join("%.1f,%.1f" % (x + 4 * i, y + 4 * j) for i, j in corners), look)
-
-
-def text(x, y, words, size=13, weight="normal", anchor="start"):
-    return '<text x="%.1f" y="%.1f" font-size="%d" font-weight="%s" text-anchor="%s">%s</text>' % (
-        x, y, size, weight, anchor, escape(words),
-    )  # fmt: skip
+def numbers(text):
+    """The numbers of a list such as 1,2,8, in order."""
+    return sorted({int(word) for word in text.split(",")})
 
 
 def main():
-    parser = argparse.ArgumentParser(description=__doc__.splitlines()[0])
+    parser = argparse.ArgumentParser(description=__doc__, formatter_class=argparse.RawDescriptionHelpFormatter)
+    parser.add_argument("table", nargs="?", default="-", metavar="TABLE", help="the table; - is standard input")
     parser.add_argument("--misses", action="store_true", help="draw misses in place of miss ratios")
     parser.add_argument("--log", action="store_true", help="make the upright scale a log scale")
-    parser.add_argument("--words", action="store_true", help="print the facts as plain text")
+    parser.add_argument("--ways", type=numbers, metavar="LIST", help="draw lines for these ways, as 1,2,8")
+    parser.add_argument("--words", action="store_true", help="print a summary as plain text")
+    parser.add_argument("--all", action="store_true", help="with --words: every cache too")
     chosen = parser.parse_args()
+    if chosen.all and not chosen.words:
+        parser.error("--all goes with --words")
     try:
-        table = Table(sys.stdin.buffer.read().decode("ascii", "replace"))
+        table = Table.read(chosen.table)
         if table.refs == 0 and not chosen.words:
             raise Malformed("there is nothing to draw: the table has no references")
+        if not set(chosen.ways or []) <= set(table.ways):
+            raise Malformed("--ways: the table has 1 to %d ways" % table.ways[-1])
     except Malformed as why:
         sys.exit("picture.py: %s" % why)
-    made = "\n".join(facts(table) + [""]) if chosen.words else picture(table, chosen.misses, chosen.log)
-    sys.stdout.buffer.write(made.encode())
+    if chosen.words:
+        made = "\n".join(words.summary(table) + (words.every_cache(table) if chosen.all else []) + [""])
+    else:
+        made = svg.picture(table, chosen.misses, chosen.log, chosen.ways)
+    try:
+        write_out(made.encode())
+    except NoAnswer as why:
+        sys.exit("picture.py: %s" % why)
 
 
 if __name__ == "__main__":
