@@ -92,6 +92,9 @@ module _ (w : World) (past : List Given) (i : History w past) where
     full-by-smallest =
         full-all ∙ any-first (sizes o) (λ (k : ℕ). fullAfter o past g (at k)) first-in down ∙ ap (fullAfter o past g) zeroth
 
+    pub full-at-smallest : fullAfter o past g (o .bmin .0) ≡ anyOn (sizeStep o) (isFull o) (sizeAt w 0) (eventsIn w g 0)
+    full-at-smallest = ap (fullAfter o past g) (sym zeroth) ∙ sym (full-is 0 first-in)
+
     -- THE LAW: 5 where refs is reached, 6 where the stack of the smallest blocks would pass room, else done
     pub answer-after : takeAnswer w g ≡ cond (eqb (w .state .taken) (o .refs)) 5 (cond (fullAfter o past g (o .bmin .0)) 6 0)
     answer-after =

@@ -9,26 +9,27 @@ use lib.ListN.{length, drop, getD}
 use borrow.Author.Tests.{eqb-true, eqb-false, ne-eqb}
 use Rattle.lists.specs.Members.{mem, Distinct}
 use Rattle.lists.specs.Sums.{total}
+use Rattle.lists.specs.Tests.{anyTo}
 use Rattle.lists.proofs.Cases.{cases}
 use Rattle.lists.proofs.TestLaws.{settled-done, settled-not}
 use Rattle.lists.proofs.ZeroLaws.{drop-zeroed}
-use Rattle.cache.specs.Cache.{Given, referred, eventsOf, missesOver}
+use Rattle.cache.specs.Cache.{Given, ref, referred, eventsOf, missesOver}
 use Rattle.cache.specs.Stack.{isSeen, seenIn}
 use Rattle.cache.proofs.SeenLaws.{seen-is, no-repeats}
 use Rattle.order.specs.declared.Order.{Order}
 use Rattle.order.specs.Limits.{sizes, stackNeed, countNeed}
-use Rattle.sizes.specs.Size.{isFull}
 use Rattle.taking.specs.declared.Counted.{Counted}
 use Rattle.taking.specs.declared.Opened.{Opened}
 use Rattle.taking.specs.declared.Rated.{Rated}
-use Rattle.taking.specs.Places.{usedOf, stackAt}
+use Rattle.taking.specs.Places.{usedOf, stackAt, blockAt, fullAt}
 use Rattle.taking.specs.Opening.{Opens, openAnswer, opened}
 use Rattle.taking.specs.Questions.{has, hitsOf, missesAnswer, missesOf}
 use Rattle.taking.specs.Ratios.{ratiosAnswer, ratiosOf, ratiosAt, noRatios}
-use Rattle.taking.specs.Taking.{Takes, someSize, taken, takeAnswer}
+use Rattle.taking.specs.Taking.{Takes, taken, takeAnswer}
 use Rattle.taking.specs.World.{World}
+use Rattle.taking.proofs.TakenLaws.{full-at, full-each}
 use Rattle.calls.specs.Calls.{Call, Calls}
-use Rattle.calls.proofs.AnswerLaws.{count-is, stack-is, fullAfter, full-by-smallest, answer-after}
+use Rattle.calls.proofs.AnswerLaws.{count-is, stack-is, fullAfter, full-by-smallest, full-at-smallest, answer-after}
 use Rattle.calls.proofs.CallLaws.{opened-is, history-after, order-after, kept-by-calls}
 use Rattle.calls.proofs.HistoryLaws.{History}
 use Rattle.calls.proofs.PassedLaws.{stacks-past-taken, counts-past-taken}
@@ -146,8 +147,18 @@ module _ (o : Order) (w₀ w₁ : World) (opens : Opens o w₀ 0 w₁) (cs : Lis
         apart false true e = (λ z. omega arith, λ z. omega arith)
         apart false false e = (λ z. omega arith, λ z. omega arith)
 
-  pub smallest-decides : (g : Given) → someSize isFull w g ≡ fullAfter o l g (o .bmin .0)
-  smallest-decides g = full-by-smallest w l past g ∙ ap (λ (x : Order). fullAfter x l g (x .bmin .0)) same
+  module _ (a : ℕ) where
+    -- at block size k the block is new and its stack is full
+    abbrev full : ℕ → Bool
+    full = fullAt (w .state) (w .stacks) (blockAt (w .state) a)
+
+    pub smallest-decides : anyTo (sizes o) full ≡ full 0
+    smallest-decides =
+        ap (λ (x : Order). anyTo (sizes x) full) (sym same)
+        ∙ sym (full-each (w .state) (w .stacks) (w .counts) a (past .fitted .fit))
+        ∙ full-by-smallest w l past (ref a)
+        ∙ full-at-smallest w l past (ref a)
+        ∙ full-at (w .state) (w .stacks) (w .counts) a (past .fitted .fit) 0 (omega arith)
 
   -- ---- what the state and the stacks hold
 

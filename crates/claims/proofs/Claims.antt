@@ -10,23 +10,24 @@ use Rattle.lists.specs.Members.{mem, Distinct}
 use Rattle.lists.specs.Runs.{Each, without}
 use Rattle.lists.specs.Sums.{total}
 use Rattle.lists.specs.Tables.{zeroed}
-use Rattle.lists.specs.Tests.{firstOf, allLe}
+use Rattle.lists.specs.Tests.{firstOf, anyTo, allLe}
 use Rattle.cache.specs.Cache.{Given, ref, referred, eventsOf, touchesOf, simulate, isHit, missesOver}
 use Rattle.cache.specs.Stack.{isSeen, seenIn}
 use Rattle.cache.proofs.InclusionLaws.{HitToo, inclusion}
 use Rattle.cache.proofs.Worked.{trace, grid}
 use Rattle.order.specs.declared.Order.{Order}
 use Rattle.order.specs.Limits.{within, zeroOrder, sizes, stackNeed, countNeed}
-use Rattle.sizes.specs.Size.{isFull, isOver}
+use Rattle.sizes.specs.Size.{isOver}
 use Rattle.taking.specs.declared.Opened.{Opened}
 use Rattle.taking.specs.declared.Counted.{Counted}
 use Rattle.taking.specs.declared.Rated.{Rated}
-use Rattle.taking.specs.Places.{usedOf, stackAt}
+use Rattle.taking.specs.Places.{usedOf, stackAt, blockAt, fullAt}
 use Rattle.taking.specs.World.{World, world}
 use Rattle.taking.specs.Opening.{Opens, openAnswer, unopened}
 use Rattle.taking.specs.Taking.{Takes, isForeign, someSize}
 use Rattle.taking.specs.Questions.{has, hitsOf, missesOf}
 use Rattle.taking.specs.Ratios.{ratiosOf, ratiosAt, noRatios}
+use Rattle.taking.proofs.TakenLaws.{take-answer-in-words}
 use Rattle.calls.specs.Calls.{Call, Calls}
 use Rattle.calls.proofs.CallLaws.{call-refused, calls-there}
 use Rattle.strip.specs.declared.Stripped.{Stripped}
@@ -59,10 +60,11 @@ module _ (o : Order) (st ct : List ℕ) (n : ℕ) (w′ : World) (opens : Opens 
       → w′ ≡ world (record { order = o; taken = 0; used = replicate 8 0 }) (zeroed (stackNeed o) st) (zeroed (countNeed o) ct)
   opening-done = outcomes.opening-done opens
 
--- ---- taking what is given in any world w, a foreign state or foreign tables too
+-- ---- taking a reference to the address a in any world w, a foreign state or foreign tables too
 
-module _ (w : World) (g : Given) (n : ℕ) (w′ : World) (takes : Takes w g n w′) where
-  -- the first of 1 to 7 that applies, else 0
+module _ (w : World) (a : ℕ) (n : ℕ) (w′ : World) (takes : Takes w (ref a) n w′) where
+  -- the first of 1 to 7 that applies, else 0: with 6 at some block size the block is new and its stack is full; with 7 at some block size a count to
+  -- be raised is not below the references taken
   pub demand-1-taking : n
       ≡ firstOf
       ((not (within (w .state .order)), 1)
@@ -70,10 +72,10 @@ module _ (w : World) (g : Given) (n : ℕ) (w′ : World) (takes : Takes w g n w
       ∷ (ltb (length (w .counts)) (countNeed (w .state .order)), 3)
       ∷ (isForeign (w .state), 4)
       ∷ (eqb (w .state .taken) (w .state .order .refs), 5)
-      ∷ (someSize isFull w g, 6)
-      ∷ (someSize isOver w g, 7)
+      ∷ (anyTo (sizes (w .state .order)) (fullAt (w .state) (w .stacks) (blockAt (w .state) a)), 6)
+      ∷ (someSize isOver w (ref a), 7)
       ∷ [])
-  demand-1-taking = takes .answer
+  demand-1-taking = takes .answer ∙ take-answer-in-words w a
 
   -- refused: nothing changes
   pub demand-1-taking-refused : (n ≡ 0 → ⊥) → w′ ≡ w
@@ -177,7 +179,8 @@ module _ (o : Order) (st ct : List ℕ) (w₁ : World) (opens : Opens o (unopene
   only-5-and-6 = outcomes.answer-promised o (unopened st ct) w₁ opens cs l w calls
 
   -- 6 is decided by the smallest block size alone
-  pub smallest-decides-6 : (g : Given) → someSize isFull w g ≡ ltb (o .room) (length (seenIn (o .bmin .0) (l ++ (g ∷ []))))
+  pub smallest-decides-6 : (a : ℕ)
+      → anyTo (sizes o) (fullAt (w .state) (w .stacks) (blockAt (w .state) a)) ≡ fullAt (w .state) (w .stacks) (blockAt (w .state) a) 0
   smallest-decides-6 = outcomes.smallest-decides o (unopened st ct) w₁ opens cs l w calls
 
   -- misses answer 0 inside the order and 8 outside; ratios 8 outside it, and inside it 9 where no references are taken, else 0

@@ -34,7 +34,8 @@ pub padded-none : (n : ℕ) (l : List ℕ) → n ≤ length l → padded n l ≡
 padded-none n l h = let z : n - length l ≡ 0 = omega arith in ap (λ (m : ℕ). l ++ replicate m 0) z ∙ append-nil l
 
 module _ (v : Opened) (st ct : List ℕ) (a : ℕ) (f : Fit v (length st) (length ct)) where
-  full-at : (k : ℕ) → k < sizes (v .order) → (ltb (v .order .room) (length (topped v st (blockAt v a) k)) || false) ≡ fullAt v st (blockAt v a) k
+  pub full-at : (k : ℕ) → k < sizes (v .order)
+      → (ltb (v .order .room) (length (topped v st (blockAt v a) k)) || false) ≡ fullAt v st (blockAt v a) k
   full-at k h =
       let long = length-stack v st (length ct) k f h in
       or-false (ltb (v .order .room) (length (topped v st (blockAt v a) k)))
