@@ -1,4 +1,4 @@
-/* The sweep program's job in plain C, to compare its speed with. Document 01's algorithm as written: one stack for each block
+/* The sweep program's job in plain C, to compare its speed with. The algorithm of docs/SCOPE.md as written: one stack for each block
    size, most recent first; a walk that leaves at the block it seeks; the depth at each s by the trailing zeros of the xor.
    It prints the same table, or the refusals 1, 2, 5, 6, 10 and 11. It has no refusal 26, and nothing here is proved.
 

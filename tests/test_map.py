@@ -142,6 +142,8 @@ class Pages(unittest.TestCase):
             text = re.sub(r"\s*\n\s*(?://+!?|--|#|\*)?\s*", " ", path.read_text(errors="replace"))
             cited = re.findall(r"SCOPE, ((?:\"[^\"]+\"(?:, | and )?)+)", text)
             gone += ["%s: %s" % (path.relative_to(ROOT), one) for part in cited for one in re.findall(r'"([^"]+)"', part) if one not in SECTIONS]
+            if path.name != "DECISIONS.md" and re.search(r"\b[Dd]ocument 0[012]\b", text):
+                gone.append("%s: a document that no reader of the repository has" % path.relative_to(ROOT))
             named = re.findall(r"SCOPE ([A-Z]\d+[a-z]?)\b", text)
             gone += ["%s: %s" % (path.relative_to(ROOT), one) for one in named if one not in SENTENCES]
         self.assertEqual(gone, [])

@@ -1,4 +1,4 @@
--- Document 01's worked trace at b = 4: its twelve numbers as one table, and what its mistakes would give. Assumes nothing.
+-- The trace of SCOPE, "The worked trace", at b = 4: its twelve numbers as one table, and what its mistakes would give. Assumes nothing.
 use Prim.Native.Nat.{ℕ}
 use mathlib.Core.Path.{_≡_, refl}
 use mathlib.Core.List.{List, [], _∷_, map}

@@ -1,4 +1,4 @@
--- One cache by itself, (b, s, w): blocks of 2^b bytes, 2^s sets, w ways (document 01, "The cache being counted").
+-- One cache by itself, (b, s, w): blocks of 2^b bytes, 2^s sets, w ways (SCOPE, "The cache being counted").
 -- Nothing here knows of stacks, tables or counts: this page is what a reader must believe. Assumes nothing.
 use Prim.Native.Nat.{ℕ, _/_, _%_, _^_}
 use mathlib.Core.Bool.{Bool, true, false, cond}

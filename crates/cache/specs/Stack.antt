@@ -1,4 +1,4 @@
--- The stack of one block size and the depth of a block in it (document 01, "The stack and the counts").
+-- The stack of one block size and the depth of a block in it (SCOPE, "The stack and the counts").
 -- Assumes nothing.
 use Prim.Native.Nat.{ℕ}
 use mathlib.Core.Bool.{Bool, false, cond, _||_}

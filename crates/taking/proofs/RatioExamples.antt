@@ -1,4 +1,4 @@
--- Document 01's worked ratios: 5 misses in 8 references at b = 4 give 0.625 and 10.0. Here 0.625 is 5 * 2^-3 and 10.0 is 5 * 2^1.
+-- The ratios of SCOPE, "Questions": 5 misses in 8 references at b = 4 give 0.625 and 10.0. Here 0.625 is 5 * 2^-3 and 10.0 is 5 * 2^1.
 -- Assumes nothing.
 use Prim.Native.Nat.{ℕ}
 use mathlib.Core.Path.{_≡_, refl}
