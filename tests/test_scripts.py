@@ -28,6 +28,14 @@ class Scripts(unittest.TestCase):
             self.assertEqual((ended.returncode, ended.stderr), (0, ""), name)
             self.assertIn((ROOT / "scripts" / name).read_text().split('"""')[1].splitlines()[0], ended.stdout)
 
+    def test_help_of_the_others(self):
+        """The scripts for developers say what they are for, and do nothing else."""
+        others = [path for path in ROOT.glob("scripts/*") if path.is_file() and path.name not in USERS and path.suffix != ".c"]
+        for path in others:
+            ended = subprocess.run([path, "--help"], capture_output=True, text=True, timeout=20)
+            self.assertEqual((ended.returncode, ended.stderr), (0, ""), path.name)
+            self.assertGreater(len(ended.stdout), 40, path.name)
+
     def test_each_has_a_test(self):
         tests = "".join(path.read_text() for path in ROOT.glob("tests/test_*.py") if path.name != "test_scripts.py")
         self.assertEqual([name for name in USERS if '"scripts/%s"' % name not in tests], [])
