@@ -9,7 +9,7 @@ use Rattle.units.specs.Refusals.{outsideLimits}
 use Rattle.order.specs.declared.Order.{Order}
 use Rattle.order.specs.declared.Checked.{Checked}
 
--- at most 8 block sizes: bmin to bmax
+-- the block sizes: bmin to bmax
 abbrev pub sizes : Order → ℕ
 sizes o = o .bmax .0 - o .bmin .0 + 1
 
@@ -38,10 +38,17 @@ bMost = 12
 abbrev pub sMost : ℕ
 sMost = 14
 
+-- at most 8 block sizes; smax is at most 14, so at most 15 rows
+abbrev pub sizesMost : ℕ
+sizesMost = 8
+
+abbrev pub rowsMost : ℕ
+rowsMost = 15
+
 -- in each pair the first is at most the second
 abbrev pub limits : Order → List (ℕ × ℕ)
 limits o =
-    (bLeast, o .bmin .0) ∷ (o .bmax .0, bMost) ∷ (o .bmin .0, o .bmax .0) ∷ (sizes o, 8)
+    (bLeast, o .bmin .0) ∷ (o .bmax .0, bMost) ∷ (o .bmin .0, o .bmax .0) ∷ (sizes o, sizesMost)
     ∷ (o .smax, sMost)
     ∷ (1, o .ways) ∷ (o .ways, 16)
     ∷ (1, o .room) ∷ (o .room, 1048576)

@@ -36,7 +36,7 @@ impl Order {
     pub const S_MOST: u32 = 14;
 
     // every s from 0 to S_MOST
-    pub const ROWS_MOST: usize = 15;
+    pub const ROWS_MOST: usize = Order::S_MOST as usize + 1;
 
     // "ways from 1 to 16"
     pub const WAYS_LEAST: u32 = 1;

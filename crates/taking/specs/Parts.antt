@@ -11,7 +11,7 @@ use Rattle.lists.specs.Tables.{part, writeAt, writtenRows, setLengths}
 use Rattle.lists.specs.Tests.{firstOf, anyTo, All≤}
 use Rattle.cache.specs.Cache.{blockOf}
 use Rattle.units.specs.Refusals.{outsideLimits, shortStacks, shortCounts, foreignState, refsReached, notInOrder}
-use Rattle.order.specs.Limits.{limits, within, sizes, rows, stackNeed, countNeed}
+use Rattle.order.specs.Limits.{sizesMost, rowsMost, limits, within, sizes, rows, stackNeed, countNeed}
 use Rattle.taking.specs.Places.{usedOf, stackAt, depthAt}
 use Rattle.taking.specs.Questions.{has}
 use Rattle.taking.specs.Taking.{isForeign}
@@ -66,8 +66,8 @@ onTop v st x = not (anyTo (sizes (v .order)) (offTop v st x))
 
 -- scratch for every block size and s that an order can have, the depths zero
 pub record Blank (ps ds : List ℕ) : Type 0 where
-  pub places : length ps ≡ 8
-  pub depths : length ds ≡ 120
+  pub places : length ps ≡ sizesMost
+  pub depths : length ds ≡ sizesMost * rowsMost
   pub zero : (i : ℕ) → getD ds i 0 ≡ 0
 
 -- one more at each of the n places from base on that is at most base + z
@@ -77,10 +77,10 @@ pub record Bumped (base n z : ℕ) (old new : List ℕ) : Type 0 where
   pub before : (i : ℕ) → i < base → getD new i 0 ≡ getD old i 0
   pub past : (i : ℕ) → base + n ≤ i → getD new i 0 ≡ getD old i 0
 
--- all block sizes are looked at: where each walk left, and 15 depths a size
+-- all block sizes are looked at: where each walk left, and its depths
 pub record Looked (v : Opened) (st : List ℕ) (x : ℕ → ℕ) (ps ds : List ℕ) : Type 0 where
   pub place : (k : ℕ) → k < sizes (v .order) → getD ps k 0 ≡ length (above (x k) (stackAt v st k))
-  pub deep : (k s : ℕ) → k < sizes (v .order) → s < rows (v .order) → getD ds (k * 15 + s) 0 ≡ depthAt v st x k s
+  pub deep : (k s : ℕ) → k < sizes (v .order) → s < rows (v .order) → getD ds (k * rowsMost + s) 0 ≡ depthAt v st x k s
 
 -- the same, as the scratch arrays tell it: found where the walk left within the used length
 abbrev pub foundBy : List ℕ → List ℕ → ℕ → Bool
@@ -90,7 +90,7 @@ abbrev pub depthFrom : ℕ → List ℕ → ℕ → ℕ
 depthFrom at ds s = getD ds (at + s) 0
 
 abbrev pub deepBy : List ℕ → ℕ → ℕ → ℕ
-deepBy ds k = depthFrom (k * 15) ds
+deepBy ds k = depthFrom (k * rowsMost) ds
 
 -- ---- the counts
 
@@ -111,18 +111,18 @@ pub record Rows (first r w m at : ℕ) (ds : List ℕ) : Type 0 where
 
 -- n groups of r rows of w counts are within an order's limits and within m entries
 pub record Grid (n r w m : ℕ) : Type 0 where
-  pub sizes : n ≤ 8
-  pub rows : r ≤ 15
+  pub sizes : n ≤ sizesMost
+  pub rows : r ≤ rowsMost
   pub some : 1 ≤ w
   pub inside : n * r * w ≤ m
 
 -- so for n block sizes, with the used lengths, and with the places and depths that the walks left
 pub record Tabled (n r w m : ℕ) (us ps ds : List ℕ) : Type 0 where
   pub grid : Grid n r w m
-  pub used : length us ≡ 8
-  pub places : length ps ≡ 8
-  pub depths : length ds ≡ 120
-  pub falling : (k : ℕ) → k < n → Falling (k * 15) r ds
+  pub used : length us ≡ sizesMost
+  pub places : length ps ≡ sizesMost
+  pub depths : length ds ≡ sizesMost * rowsMost
+  pub falling : (k : ℕ) → k < n → Falling (k * rowsMost) r ds
 
 -- no count to be raised is at the top of its range: in the rows from row `first` on; and in all groups where f holds
 abbrev pub Raisable : ℕ → ℕ → ℕ → (ℕ → ℕ) → List ℕ → Type 0
@@ -154,11 +154,11 @@ pub record Moved (base used x : ℕ) (st st′ : List ℕ) (n : ℕ) : Type 0 wh
 
 -- at each of n block sizes the stack is within room, and the walk left below room
 pub record Roomed (n room : ℕ) (x : ℕ → ℕ) (st us ps : List ℕ) : Type 0 where
-  pub sizes : n ≤ 8
+  pub sizes : n ≤ sizesMost
   pub small : room ≤ 1048576
   pub long : n * room ≤ length st
-  pub lengths : length us ≡ 8
-  pub places : length ps ≡ 8
+  pub lengths : length us ≡ sizesMost
+  pub places : length ps ≡ sizesMost
   pub used : (k : ℕ) → k < n → getD us k 0 ≤ room
   pub below : (k : ℕ) → k < n → getD ps k 0 < room
   pub place : (k : ℕ) → k < n → getD ps k 0 ≡ length (above (x k) (part (k * room) (getD us k 0) st))

@@ -5,11 +5,12 @@ ghost use Prim.Native.Nat.{ℕ, _+_, _*_, _≤_, _<_};
 ghost use lib.Dec.{leb};
 ghost use lib.ListN.{length, getD};
 ghost use Rattle.lists.specs.Tests.{anyTo};
+ghost use Rattle.order.specs.Limits.{sizesMost};
 ghost use Rattle.taking.specs.Parts.{Stopped, Moved, Roomed, AllMoved, front, widerBy};
 
 // Some walk left at or past room: its block is new and its stack is full.
 pub(crate) fn is_full(places: &[u32], sizes: usize, room: u32) -> bool
-    requires { ⌜ (sizes ≤ 8) × (length (now places) ≡ 8) ⌝ }
+    requires { ⌜ (sizes ≤ sizesMost) × (length (now places) ≡ sizesMost) ⌝ }
     ensures { λ r. ⌜ r ≡ anyTo sizes (λ (k : ℕ). leb room (getD (now (places .entry)) k 0)) ⌝ }
 {
     let mut k = 0usize;

@@ -4,7 +4,7 @@ use units::ByteExp;
 use units::refusal;
 ghost use mathlib.Core.Path.{_≡_};
 ghost use Prim.Native.Nat.{_≤_};
-ghost use Rattle.order.specs.Limits.{sizes};
+ghost use Rattle.order.specs.Limits.{sizes, sizesMost};
 ghost use Rattle.taking.specs.Taking.{isForeign};
 ghost use Rattle.taking.specs.Parts.{earlyAnswer, unaskable};
 
@@ -56,7 +56,7 @@ impl Opened {
 
     // The state has a used length above room for a block size of the order, or references above refs.
     fn is_foreign(self) -> bool
-        requires { ⌜ sizes (self .order) ≤ 8 ⌝ }
+        requires { ⌜ sizes (self .order) ≤ sizesMost ⌝ }
         ensures { λ r. ⌜ r ≡ isForeign self ⌝ }
     {
         let sizes = self.order.sizes();

@@ -11,16 +11,10 @@ pub is-within-spec : {M : Type 1} → statement M
 is-within-spec =
     tie.close
     (tie.spec
-    (λ c. sym (all-not (limits _) (λ w. omega arith)))
-    (λ c. sym (all-not (limits _) (λ w. omega arith)))
-    (λ c. sym (all-not (limits _) (λ w. omega arith)))
-    (λ c. search needs)
-    (λ c. sym (all-not (limits _) (λ w. omega arith)))
-    (λ c. sym (all-not (limits _) (λ w. omega arith)))
-    (λ c. sym (all-not (limits _) (λ w. omega arith)))
-    (λ c. sym (all-not (limits _) (λ w. omega arith)))
-    (λ c. sym (all-not (limits _) (λ w. omega arith)))
-    (λ c. sym (all-not (limits _) (λ w. omega arith)))
-    (λ c. sym (all-not (limits _) (λ w. omega arith)))
-    (λ c. sym (all-not (limits _) (λ w. omega arith)))
+    (λ c. sym (all-not (limits _) (λ w. omega arith))) (λ c. sym (all-not (limits _) (λ w. omega arith)))
+    (λ c. sym (all-not (limits _) (λ w. omega arith))) (λ c. search needs)
+    (λ c. sym (all-not (limits _) (λ w. omega arith))) (λ c. sym (all-not (limits _) (λ w. omega arith)))
+    (λ c. sym (all-not (limits _) (λ w. omega arith))) (λ c. sym (all-not (limits _) (λ w. omega arith)))
+    (λ c. sym (all-not (limits _) (λ w. omega arith))) (λ c. sym (all-not (limits _) (λ w. omega arith)))
+    (λ c. sym (all-not (limits _) (λ w. omega arith))) (λ c. sym (all-not (limits _) (λ w. omega arith)))
     (λ c. sym (all-yes (limits _) (omega arith))))

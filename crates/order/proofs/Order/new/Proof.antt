@@ -4,12 +4,6 @@ use mathlib.Core.Path.{sym, _∙_}
 use Rattle.order.proofs.Order.new.Statement.{statement}
 use Rattle.order.proofs.Order.new.Tie as tie
 
-is-within-requires : tie.Need-is-within-requires
-is-within-requires c κs = search needs
-
-none-requires : tie.Need-none-requires
-none-requires c κs = search needs
-
 returns : tie.Need-returns
 returns c =
     let fits = sym (c .before .is-within .ensures) ∙ c .if1 .taken in
@@ -20,5 +14,6 @@ returns-2 c =
     let fails = sym (c .before .before .is-within .ensures) ∙ c .before .if1 .left in
     record { answer = simp fails; order = simp fails (c .none .ensures) }
 
+-- closed by search
 pub new-spec : {M : Type 1} → statement M
-new-spec = tie.close (tie.spec is-within-requires none-requires returns returns-2)
+new-spec = tie.close (tie.spec (λ c κs. search needs) (λ c κs. search needs) returns returns-2)

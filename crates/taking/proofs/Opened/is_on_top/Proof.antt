@@ -94,21 +94,9 @@ pub is-on-top-spec : {M : Type 1} → statement M
 is-on-top-spec =
     tie.close
     (tie.spec
-    Inv-loop
-    μ-loop
-    (λ c κs. search needs)
-    (λ c. search needs)
-    (λ c. (omega arith, any-none _))
-    (λ c. search needs)
-    (λ c. search needs)
-    returns
-    (λ c. search needs)
-    (λ c κs. search needs)
-    (λ c. omega (arith, inside (c .before .before .before)))
-    (λ c. omega (arith, inside (c .before .before .before)))
-    (λ c. omega (arith, inside (c .before .before .before .before)))
-    returns-2
-    (λ c. search needs)
-    (λ c. search needs)
-    loop-again
-    returns-3)
+    Inv-loop μ-loop
+    (λ c κs. search needs) (λ c. search needs) (λ c. (omega arith, any-none _)) (λ c. search needs)
+    (λ c. search needs) returns (λ c. search needs) (λ c κs. search needs)
+    (λ c. omega (arith, inside (c .before .before .before))) (λ c. omega (arith, inside (c .before .before .before)))
+    (λ c. omega (arith, inside (c .before .before .before .before))) returns-2 (λ c. search needs) (λ c. search needs)
+    loop-again returns-3)

@@ -97,6 +97,11 @@ bump-requires c κs =
     (l .inv) in
     (omega (arith, rows, inside at, f .numbers, l .inv .long), λ j g. omega (arith, small j (omega (arith, rows, g)), inside at, l .inv .inside))
 
+add-i : tie.Need-add-i Inv-loop2 μ-loop2 Inv-loop μ-loop
+add-i c =
+    let passed = c .before .before .before .before .before .before .before .before .before .before in
+    omega (arith, inside (passed .before .before .before .before), passed .if1 .left)
+
 loop2-again : tie.Need-loop2-again Inv-loop2 μ-loop2 Inv-loop μ-loop
 loop2-again c =
     let call = c .before .before .bump in
@@ -152,37 +157,19 @@ pub look-spec : {M : Type 1} → statement M
 look-spec =
     tie.close
     (tie.spec
-    Inv-loop2
-    μ-loop2
-    Inv-loop
-    μ-loop
-    (λ c κs. search needs)
-    (λ c κs. search needs)
-    (λ c. search needs)
-    loop-holds
-    (λ c. omega (arith, inside c))
-    (λ c κs. search needs)
-    (λ c. omega (arith, inside (c .before)))
-    (λ c. search needs)
-    (λ c. search needs)
-    (λ c. omega (arith, inside (c .before .before)))
-    loop2-holds
+    Inv-loop2 μ-loop2 Inv-loop μ-loop
+    (λ c κs. search needs) (λ c κs. search needs) (λ c. search needs) loop-holds (λ c. omega (arith, inside c))
+    (λ c κs. search needs) (λ c. omega (arith, inside (c .before))) (λ c. search needs) (λ c. search needs)
+    (λ c. omega (arith, inside (c .before .before))) loop2-holds
     (λ c. omega (arith, inside (c .before .before .before .before), c .if1 .left))
     (λ c. omega (arith, inside (c .before .before .before .before), c .if1 .left))
     (λ c. omega (arith, inside (c .before .before .before .before .before), c .before .if1 .left))
     (λ c. omega (arith, inside (c .before .before .before .before .before .before .before .before .before .before .before)))
-    (λ c. record { fits = few-zeros _ })
-    bump-requires
-    (λ c. let other = c .before .before .before .before .before .before in omega
-    (arith, inside (other .before .before .before .before .before .before .before .before), other .before .before .before .before .if1 .left))
+    (λ c. record { fits = few-zeros _ }) bump-requires add-i
     (λ c. omega (arith, c .before .before .before .before .before .before .before .before .before .before .if1 .left))
-    loop2-again
-    (λ c. omega (arith, inside (c .before .before .before .before .before), left (c .before) .inside))
+    loop2-again (λ c. omega (arith, inside (c .before .before .before .before .before), left (c .before) .inside))
     (λ c. omega (arith, inside (c .before .before .before .before .before)))
     (λ c. omega (arith, inside (c .before .before .before .before .before), c .before .before .before .before .before .before .loop .inv .eight))
     (λ c. omega (arith, inside (c .before .before .before .before .before)))
-    (λ c. omega (arith, c .before .before .before .before .before .loop-test .taken))
-    loop-again
-    (λ c. search needs)
-    (λ c. search needs)
-    returns)
+    (λ c. omega (arith, c .before .before .before .before .before .loop-test .taken)) loop-again (λ c. search needs)
+    (λ c. search needs) returns)

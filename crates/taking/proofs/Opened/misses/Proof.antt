@@ -82,17 +82,7 @@ pub misses-spec : {M : Type 1} → statement M
 misses-spec =
     tie.close
     (tie.spec
-    (λ c κs. search needs)
-    returns
-    (λ c. search needs)
-    (λ c. omega (arith, askable (c .before .before .before .before) .there))
-    (λ c. search needs)
-    (λ c κs. search needs)
-    (λ c. omega (arith, place c))
-    (λ c. omega (arith, place c))
-    (λ c. search needs)
-    (λ c. omega (arith, place (c .before)))
-    summed-requires
-    returns-2
-    (λ c. search needs)
-    returns-3)
+    (λ c κs. search needs) returns (λ c. search needs)
+    (λ c. omega (arith, askable (c .before .before .before .before) .there)) (λ c. search needs)
+    (λ c κs. search needs) (λ c. omega (arith, place c)) (λ c. omega (arith, place c)) (λ c. search needs)
+    (λ c. omega (arith, place (c .before))) summed-requires returns-2 (λ c. search needs) returns-3)

@@ -5,11 +5,9 @@ use borrow.Author.Needs.{needs}
 use Rattle.taking.proofs.Opened.none.Statement.{statement}
 use Rattle.taking.proofs.Opened.none.Tie as tie
 
-none-requires : tie.Need-none-requires
-none-requires c κs = search needs
-
 returns : tie.Need-returns
 returns c = ap fresh (c .none .ensures)
 
+-- closed by search
 pub none-spec : {M : Type 1} → statement M
-none-spec = tie.close (tie.spec none-requires returns)
+none-spec = tie.close (tie.spec (λ c κs. search needs) returns)

@@ -216,32 +216,10 @@ pub take-deep-spec : {M : Type 1} → statement M
 take-deep-spec =
     tie.close
     (tie.spec
-    (λ c κs. search needs)
-    (λ c κs. search needs)
-    (λ c. search needs)
-    (λ c. search needs)
-    (λ c. search needs)
-    (λ c. search needs)
-    look-requires
-    (λ c. search needs)
-    is-full-requires
-    (λ c. search needs)
-    returns
-    (λ c. sym (eight (c .before .before .before .before .before .before .before)))
-    (λ c. search needs)
-    (λ c. search needs)
-    is-over-requires
-    (λ c. search needs)
-    (λ c. search needs)
-    returns-2
+    (λ c κs. search needs) (λ c κs. search needs) (λ c. search needs) (λ c. search needs) (λ c. search needs)
+    (λ c. search needs) look-requires (λ c. search needs) is-full-requires (λ c. search needs) returns
+    (λ c. sym (eight (c .before .before .before .before .before .before .before))) (λ c. search needs)
+    (λ c. search needs) is-over-requires (λ c. search needs) (λ c. search needs) returns-2
     (λ c. sym (eight (c .before .before .before .before .before .before .before .before .before .before .before .before .before)))
-    (λ c. search needs)
-    (λ c. search needs)
-    raise-all-requires
-    move-all-used
-    (λ c. search needs)
-    move-all-requires
-    add-taken
-    (λ c. search needs)
-    (λ c. search needs)
-    returns-3)
+    (λ c. search needs) (λ c. search needs) raise-all-requires move-all-used (λ c. search needs) move-all-requires
+    add-taken (λ c. search needs) (λ c. search needs) returns-3)

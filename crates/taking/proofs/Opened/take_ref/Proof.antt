@@ -52,15 +52,6 @@ pub take-ref-spec : {M : Type 1} → statement M
 take-ref-spec =
     tie.close
     (tie.spec
-    (λ c κs. search needs)
-    returns
-    (λ c κs. search needs)
-    is-on-top-requires
-    take-top-requires
-    (λ c. search needs)
-    (λ c. search needs)
-    returns-2
-    (λ c κs. fit (c .before .before .before .before .before .before))
-    (λ c. search needs)
-    (λ c. search needs)
-    returns-3)
+    (λ c κs. search needs) returns (λ c κs. search needs) is-on-top-requires take-top-requires (λ c. search needs)
+    (λ c. search needs) returns-2 (λ c κs. fit (c .before .before .before .before .before .before))
+    (λ c. search needs) (λ c. search needs) returns-3)

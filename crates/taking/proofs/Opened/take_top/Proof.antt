@@ -87,14 +87,5 @@ pub take-top-spec : {M : Type 1} → statement M
 take-top-spec =
     tie.close
     (tie.spec
-    (λ c κs. search needs)
-    (λ c κs. search needs)
-    (λ c. omega (arith, few c))
-    (λ c. search needs)
-    tops-over-requires
-    (λ c. search needs)
-    returns
-    raise-tops-requires
-    (λ c. search needs)
-    (λ c. search needs)
-    returns-2)
+    (λ c κs. search needs) (λ c κs. search needs) (λ c. omega (arith, few c)) (λ c. search needs) tops-over-requires
+    (λ c. search needs) returns raise-tops-requires (λ c. search needs) (λ c. search needs) returns-2)

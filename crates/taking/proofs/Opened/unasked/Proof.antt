@@ -58,12 +58,5 @@ pub unasked-spec : {M : Type 1} → statement M
 unasked-spec =
     tie.close
     (tie.spec
-    (λ c κs. search needs)
-    returns
-    (λ c κs. search needs)
-    returns-2
-    is-foreign-requires
-    returns-3
-    (λ c κs. search needs)
-    returns-4
-    returns-5)
+    (λ c κs. search needs) returns (λ c κs. search needs) returns-2 is-foreign-requires returns-3
+    (λ c κs. search needs) returns-4 returns-5)

@@ -74,18 +74,7 @@ pub is-over-spec : {M : Type 1} → statement M
 is-over-spec =
     tie.close
     (tie.spec
-    Inv-loop
-    μ-loop
-    (λ c. (search needs, any-none _))
-    (λ c. search needs)
-    (λ c. search needs)
-    (λ c. search needs)
-    (λ c. search needs)
-    mul-size-over
-    (λ c. search needs)
-    size-over-requires
-    returns
-    (λ c. search needs)
-    (λ c. search needs)
-    loop-again
+    Inv-loop μ-loop
+    (λ c. (search needs, any-none _)) (λ c. search needs) (λ c. search needs) (λ c. search needs) (λ c. search needs)
+    mul-size-over (λ c. search needs) size-over-requires returns (λ c. search needs) (λ c. search needs) loop-again
     returns-2)

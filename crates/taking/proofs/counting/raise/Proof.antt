@@ -141,36 +141,16 @@ pub raise-spec : {M : Type 1} → statement M
 raise-spec =
     tie.close
     (tie.spec
-    Inv-loop
-    μ-loop
-    Inv-loop2
-    μ-loop2
-    (λ c. record { upto = search needs; long = refl; done = raised-none _ _ _ _ })
-    (λ c. search needs)
-    (λ c. search needs)
-    (λ c. search needs)
+    Inv-loop μ-loop Inv-loop2 μ-loop2
+    (λ c. record { upto = search needs; long = refl; done = raised-none _ _ _ _ }) (λ c. search needs)
+    (λ c. search needs) (λ c. search needs)
     (λ c. omega (arith, c .shared-slice-known .given (c .before .before .before .args .at + c .before .before .loop .s)))
-    (λ c. omega (arith, cell c))
-    (λ c. omega (arith, cell c))
-    (λ c. omega (arith, cell c))
-    (λ c. omega (arith, cell c))
-    (λ c. omega (arith, cell (c .before)))
-    add-counts
-    (λ c. omega (arith, cell (c .before)))
-    (λ c. omega (arith, cell (c .before)))
-    (λ c. search needs)
-    (λ c. search needs)
-    loop-again
-    loop2-holds
-    (λ c. omega (arith, top c))
-    (λ c. omega (arith, top c))
+    (λ c. omega (arith, cell c)) (λ c. omega (arith, cell c)) (λ c. omega (arith, cell c))
+    (λ c. omega (arith, cell c)) (λ c. omega (arith, cell (c .before))) add-counts
+    (λ c. omega (arith, cell (c .before))) (λ c. omega (arith, cell (c .before))) (λ c. search needs)
+    (λ c. search needs) loop-again loop2-holds (λ c. omega (arith, top c)) (λ c. omega (arith, top c))
     (λ c. omega (arith, top c))
     (λ c. omega (arith, top (c .before), c .before .before .loop2 .inv .long, c .before .before .before .before .loop .inv .long))
-    add-counts-2
-    (λ c. omega (arith, top (c .before)))
+    add-counts-2 (λ c. omega (arith, top (c .before)))
     (λ c. omega (arith, top (c .before), c .before .before .loop2 .inv .long, c .before .before .before .before .loop .inv .long))
-    (λ c. search needs)
-    (λ c. search needs)
-    loop2-again
-    (λ c. search needs)
-    returns)
+    (λ c. search needs) (λ c. search needs) loop2-again (λ c. search needs) returns)

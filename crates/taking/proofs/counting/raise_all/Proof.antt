@@ -90,18 +90,7 @@ pub raise-all-spec : {M : Type 1} → statement M
 raise-all-spec =
     tie.close
     (tie.spec
-    Inv-loop
-    μ-loop
-    (λ c. record { upto = search needs; long = refl; done = groups-none _ _ _ _ _ })
-    (λ c. search needs)
-    (λ c. search needs)
-    (λ c. search needs)
-    (λ c. search needs)
-    mul-raise
-    (λ c. search needs)
-    raise-requires
-    (λ c. search needs)
-    (λ c. search needs)
-    loop-again
-    (λ c. search needs)
-    returns)
+    Inv-loop μ-loop
+    (λ c. record { upto = search needs; long = refl; done = groups-none _ _ _ _ _ }) (λ c. search needs)
+    (λ c. search needs) (λ c. search needs) (λ c. search needs) mul-raise (λ c. search needs) raise-requires
+    (λ c. search needs) (λ c. search needs) loop-again (λ c. search needs) returns)

@@ -60,17 +60,8 @@ pub raise-tops-spec : {M : Type 1} → statement M
 raise-tops-spec =
     tie.close
     (tie.spec
-    Inv-loop
-    μ-loop
-    (λ c. record { upto = search needs; long = refl; done = raised-none _ _ _ _ })
-    (λ c. omega (arith, inside c))
-    (λ c. omega (arith, inside c))
-    (λ c. omega (arith, inside (c .before)))
-    add-counts
-    (λ c. omega (arith, inside (c .before)))
-    (λ c. omega (arith, inside (c .before)))
-    (λ c. search needs)
-    (λ c. search needs)
-    loop-again
-    (λ c. search needs)
-    returns)
+    Inv-loop μ-loop
+    (λ c. record { upto = search needs; long = refl; done = raised-none _ _ _ _ }) (λ c. omega (arith, inside c))
+    (λ c. omega (arith, inside c)) (λ c. omega (arith, inside (c .before))) add-counts
+    (λ c. omega (arith, inside (c .before))) (λ c. omega (arith, inside (c .before))) (λ c. search needs)
+    (λ c. search needs) loop-again (λ c. search needs) returns)

@@ -114,31 +114,11 @@ pub size-over-spec : {M : Type 1} → statement M
 size-over-spec =
     tie.close
     (tie.spec
-    Inv-loop
-    μ-loop
-    Inv-loop2
-    μ-loop2
-    (λ c. (search needs, any-none _))
-    (λ c. search needs)
-    (λ c. search needs)
-    (λ c. search needs)
+    Inv-loop μ-loop Inv-loop2 μ-loop2
+    (λ c. (search needs, any-none _)) (λ c. search needs) (λ c. search needs) (λ c. search needs)
     (λ c. omega (arith, c .shared-slice-known .given (c .before .before .before .args .at + c .before .before .loop .s)))
-    (λ c. omega (arith, cell c))
-    (λ c. omega (arith, cell c))
-    (λ c. omega (arith, cell c))
-    (λ c. omega (arith, cell c))
-    (λ c. omega (arith, cell (c .before)))
-    returns
-    (λ c. search needs)
-    (λ c. search needs)
-    loop-again
-    loop2-holds
-    (λ c. omega (arith, top c))
-    (λ c. omega (arith, top c))
-    (λ c. omega (arith, top c))
-    (λ c. omega (arith, top (c .before)))
-    returns-2
-    (λ c. search needs)
-    (λ c. search needs)
-    loop2-again
-    returns-3)
+    (λ c. omega (arith, cell c)) (λ c. omega (arith, cell c)) (λ c. omega (arith, cell c))
+    (λ c. omega (arith, cell c)) (λ c. omega (arith, cell (c .before))) returns (λ c. search needs)
+    (λ c. search needs) loop-again loop2-holds (λ c. omega (arith, top c)) (λ c. omega (arith, top c))
+    (λ c. omega (arith, top c)) (λ c. omega (arith, top (c .before))) returns-2 (λ c. search needs)
+    (λ c. search needs) loop2-again returns-3)

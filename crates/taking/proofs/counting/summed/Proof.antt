@@ -15,29 +15,11 @@ Inv-loop counts at n sum₀ d₀ sum d = (d ≤ n) × (sum ≡ sumTo (λ (j : �
 abbrev μ-loop : tie.MeasureT-loop
 μ-loop counts at n sum₀ d₀ sum d = n - d
 
-loop-holds : tie.Need-loop-holds Inv-loop μ-loop
-loop-holds c = search needs
-
-add-sum : tie.Need-add-sum Inv-loop μ-loop
-add-sum c = search needs
-
-mul-sum : tie.Need-mul-sum Inv-loop μ-loop
-mul-sum c = search needs
-
-shared-slice-read-sum : tie.Need-shared-slice-read-sum Inv-loop μ-loop
-shared-slice-read-sum c = search needs
-
 cast-sum : tie.Need-cast-sum Inv-loop μ-loop
 cast-sum c = omega (arith, c .shared-slice-known .given (c .before .before .before .args .at + c .before .before .loop .d))
 
 add-sum-2 : tie.Need-add-sum-2 Inv-loop μ-loop
 add-sum-2 c = omega (arith, c .shared-slice-known .given (c .before .before .before .args .at + c .before .before .loop .d))
-
-add-d : tie.Need-add-d Inv-loop μ-loop
-add-d c = search needs
-
-loop-less : tie.Need-loop-less Inv-loop μ-loop
-loop-less c = search needs
 
 loop-again : tie.Need-loop-again Inv-loop μ-loop
 loop-again c =
@@ -53,19 +35,11 @@ returns c =
     let e : l .d ≡ a .n = omega arith in
     l .inv .1 ∙ ap (sumTo (λ (j : ℕ). getD (a .counts .now) (a .at + j) 0)) e
 
+-- closed by search
 pub summed-spec : {M : Type 1} → statement M
 summed-spec =
     tie.close
     (tie.spec
-    Inv-loop
-    μ-loop
-    loop-holds
-    add-sum
-    mul-sum
-    shared-slice-read-sum
-    cast-sum
-    add-sum-2
-    add-d
-    loop-less
-    loop-again
-    returns)
+    Inv-loop μ-loop
+    (λ c. search needs) (λ c. search needs) (λ c. search needs) (λ c. search needs) cast-sum add-sum-2
+    (λ c. search needs) (λ c. search needs) loop-again returns)

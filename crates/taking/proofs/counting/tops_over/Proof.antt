@@ -52,13 +52,6 @@ pub tops-over-spec : {M : Type 1} → statement M
 tops-over-spec =
     tie.close
     (tie.spec
-    Inv-loop
-    μ-loop
-    (λ c. (search needs, sym (any-none _)))
-    (λ c. omega (arith, inside c))
-    (λ c. omega (arith, inside c))
-    (λ c. omega (arith, inside (c .before)))
-    (λ c. search needs)
-    (λ c. search needs)
-    loop-again
-    returns)
+    Inv-loop μ-loop
+    (λ c. (search needs, sym (any-none _))) (λ c. omega (arith, inside c)) (λ c. omega (arith, inside c))
+    (λ c. omega (arith, inside (c .before))) (λ c. search needs) (λ c. search needs) loop-again returns)

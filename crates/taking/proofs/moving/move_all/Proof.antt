@@ -80,6 +80,12 @@ loop-holds c =
       used = lengths-none top (a .used .now);
     }
 
+cast-move-one : tie.Need-cast-move-one Inv-loop μ-loop
+cast-move-one c =
+    let at = c .before .before .before in
+    let used = at .before .before .before .before .before .pre .used in
+    omega (arith, kept at, used (at .before .loop .k) (at .loop-test .taken))
+
 move-one-requires : tie.Need-move-one-requires Inv-loop μ-loop
 move-one-requires c κs =
     let at = c .before .before .before .before in
@@ -153,30 +159,9 @@ pub move-all-spec : {M : Type 1} → statement M
 move-all-spec =
     tie.close
     (tie.spec
-    Inv-loop
-    μ-loop
-    loop-holds
-    (λ c. search needs)
-    (λ c κs. search needs)
-    (λ c. omega (arith, inside (c .before .before)))
-    (λ c. search needs)
-    (λ c. search needs)
-    (λ c. omega (
-      arith,
-      kept (c .before .before .before),
-      c .before .before .before .before .before .before .before .before .pre .used
-          (c .before .before .before .before .loop .k) (c .before .before .before .loop-test .taken),
-    ))
-    (λ c. search needs)
-    (λ c. search needs)
+    Inv-loop μ-loop
+    loop-holds (λ c. search needs) (λ c κs. search needs) (λ c. omega (arith, inside (c .before .before)))
+    (λ c. search needs) (λ c. search needs) cast-move-one (λ c. search needs) (λ c. search needs)
     (λ c. omega (arith, c .shared-slice-known2 .given (c .before .before .before .before .before .loop .k)))
-    move-one-requires
-    cast-used
-    (λ c. search needs)
-    (λ c. search needs)
-    (λ c. search needs)
-    (λ c. search needs)
-    loop-again
-    (λ c. search needs)
-    (λ c. search needs)
-    returns)
+    move-one-requires cast-used (λ c. search needs) (λ c. search needs) (λ c. search needs) (λ c. search needs)
+    loop-again (λ c. search needs) (λ c. search needs) returns)

@@ -7,9 +7,6 @@ use Rattle.units.proofs.BitLaws.{shifted-out}
 use Rattle.units.proofs.Addr.block.Statement.{statement}
 use Rattle.units.proofs.Addr.block.Tie as tie
 
-shr-t7 : tie.Need-shr-t7
-shr-t7 c = search needs
-
 returns : tie.Need-returns
 unfolding blockOf
 returns c = refl
@@ -18,5 +15,6 @@ returns-2 : tie.Need-returns-2
 unfolding blockOf
 returns-2 c = let a = c .before .args in sym (shifted-out (a .self .0) (a .b .0) (omega arith) (omega arith))
 
+-- closed by search
 pub block-spec : {M : Type 1} → statement M
-block-spec = tie.close (tie.spec shr-t7 returns returns-2)
+block-spec = tie.close (tie.spec (λ c. search needs) returns returns-2)

@@ -9,9 +9,6 @@ use Rattle.units.proofs.BitLaws.{kept-whole, bit}
 use Rattle.units.proofs.BlockNo.set.Statement.{statement}
 use Rattle.units.proofs.BlockNo.set.Tie as tie
 
-shl-t6 : tie.Need-shl-t6
-shl-t6 c = search needs
-
 rem-t7 : tie.Need-rem-t7
 rem-t7 c = let s = c .before .args .s in omega (arith, bit s (c .if1 .taken), pow-pos s)
 
@@ -23,5 +20,6 @@ returns-2 : tie.Need-returns-2
 unfolding setOf
 returns-2 c = let a = c .before .args in sym (kept-whole (a .self .0) (a .s) (omega arith) (omega arith))
 
+-- closed by search
 pub set-spec : {M : Type 1} → statement M
-set-spec = tie.close (tie.spec shl-t6 rem-t7 returns returns-2)
+set-spec = tie.close (tie.spec (λ c. search needs) rem-t7 returns returns-2)
