@@ -19,6 +19,8 @@ use Rattle.feeding.specs.Machine.{Held, held, feedByte, fed, lastLine, inputEnd
 use Rattle.feeding.specs.Feeding.{byLines, start, heldBy, Feeds, Ends}
 use Rattle.feeding.proofs.ByteLaws.{over-stays, over-finished, byte-many, byte-lf, byte-long, byte-kept}
 use Rattle.feeding.proofs.InputLaws.{fed-slices}
+use Rattle.printing.proofs.OutputLaws.{program-prints}
+use Rattle.sweep.specs.Run.{Answered}
 use Rattle.feeding.proofs.RunLaws.{sound, long-refused}
 
 -- ---- the bytes that an input may still have: so many lines of 255 bytes and an LF, and the rest of this one
@@ -100,8 +102,9 @@ pub record Read (st ct : List ℕ) (f : Feeding) (st′ ct′ : List ℕ) : Type
   pub len : f .len ≤ longest
 
 -- what the run over them comes to
-abbrev Whole : List ℕ → List ℕ → Feeding → List ℕ → List ℕ → Type 0
-Whole st ct f st′ ct′ = (slices : List (List ℕ)) × (heldBy f st′ ct′ ≡ finished byLines (fed byLines (heldBy start st ct) (joined slices)))
+whole : (st ct : List ℕ) (f : Feeding) (st′ ct′ : List ℕ) (slices : List (List ℕ))
+    → heldBy f st′ ct′ ≡ finished byLines (fed byLines (heldBy start st ct) (joined slices)) → Answered st ct f st′ ct′
+whole st ct f st′ ct′ slices e = record { slices = slices; is = e; prints = program-prints st ct (joined slices) f st′ ct′ e }
 
 pub read-none : (st ct : List ℕ) (f : Feeding) → f ≡ start → Read st ct f st ct
 unfolding joined
@@ -137,13 +140,14 @@ module _ (st ct : List ℕ) (f : Feeding) (st₁ ct₁ : List ℕ) (so : Read st
   read-less z some = let less = later z .less in omega arith
 
   -- it is refused: no byte after it counts
-  pub read-refused : (r .answer ≡ 0 → ⊥) → Whole st ct r st₂ ct₂
+  pub read-refused : (r .answer ≡ 0 → ⊥) → Answered st ct r st₂ ct₂
   read-refused over =
-      (so .slices ++ (bytes ∷ []), sym (over-finished byLines (heldBy r st₂ ct₂) (ap not (ne-eqb (r .answer) 0 over))) ∙ ap (finished byLines) all)
+      whole st ct r st₂ ct₂ (so .slices ++ (bytes ∷ []))
+      (sym (over-finished byLines (heldBy r st₂ ct₂) (ap not (ne-eqb (r .answer) 0 over))) ∙ ap (finished byLines) all)
 
   -- it is the LF that the last line lacks, if that has begun, and then the input ends
-  pub read-ended : bytes ≡ cond (not (eqb (f .len) 0)) (lf ∷ []) [] → (last : Feeding) → Ends r last → Whole st ct last st₂ ct₂
+  pub read-ended : bytes ≡ cond (not (eqb (f .len) 0)) (lf ∷ []) [] → (last : Feeding) → Ends r last → Answered st ct last st₂ ct₂
   read-ended e last ends =
       let d = heldBy f st₁ ct₁ in
       let lf-fed : fed byLines d bytes ≡ lastLine byLines d = ap (fed byLines d) e ∙ cases (eqb (f .len) 0) (λ t. simp t) (λ t. simp t) in
-      (so .slices, ends st₂ ct₂ ∙ ap (inputEnds byLines) (feeds ∙ lf-fed) ∙ ap (finished byLines) (so .is))
+      whole st ct last st₂ ct₂ (so .slices) (ends st₂ ct₂ ∙ ap (inputEnds byLines) (feeds ∙ lf-fed) ∙ ap (finished byLines) (so .is))

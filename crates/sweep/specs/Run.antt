@@ -5,9 +5,12 @@ use mathlib.Core.Path.{_≡_}
 use mathlib.Core.Bool.{Bool, true, false, cond}
 use mathlib.Core.List.{List, [], _∷_}
 use lib.ListN.{length, take}
+use Rattle.feeding.specs.declared.Feeding.{Feeding}
 use Rattle.feeding.specs.Lines.{lf, joined}
 use Rattle.feeding.specs.Machine.{fed, finished}
 use Rattle.feeding.specs.Feeding.{byLines, start, heldBy}
+use Rattle.printing.specs.Printed.{outputOf}
+use Rattle.printing.specs.Output.{printedFor}
 use Rattle.sweep.specs.declared.input.Ended.{Ended}
 use Rattle.sweep.specs.declared.input.More.{More}
 
@@ -17,8 +20,12 @@ pub record Came (begun : Bool) (chunk : List ℕ) (r : More) : Type 0 where
   pub some : r .failed ≡ false → r .last ≡ false → 0 < r .len
   pub end : r .failed ≡ false → r .last ≡ true → take (r .len) chunk ≡ cond begun (lf ∷ []) []
 
--- THE RUN: unless a read failed, some slices were read, and this is what their bytes and their end leave
+-- slices were read: what their bytes and their end leave, and that it prints as the definition from bytes to bytes says
+pub record Answered (st ct : List ℕ) (f : Feeding) (st′ ct′ : List ℕ) : Type 0 where
+  pub slices : List (List ℕ)
+  pub is : heldBy f st′ ct′ ≡ finished byLines (fed byLines (heldBy start st ct) (joined slices))
+  pub prints : outputOf (f .answer) (f .reading) ct′ ≡ printedFor st ct (joined slices)
+
+-- THE RUN: unless a read failed
 abbrev pub Ran : List ℕ → List ℕ → Ended → List ℕ → List ℕ → Type 0
-Ran st ct r st′ ct′ =
-    r .failed ≡ false
-    → (slices : List (List ℕ)) × (heldBy (r .feeding) st′ ct′ ≡ finished byLines (fed byLines (heldBy start st ct) (joined slices)))
+Ran st ct r st′ ct′ = r .failed ≡ false → Answered st ct (r .feeding) st′ ct′
