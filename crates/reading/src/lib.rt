@@ -21,7 +21,7 @@ pub const STACK_ENTRIES: usize = 8192;
 pub const COUNT_ENTRIES: usize = 1920;
 
 // The lines that an input may have.
-const LINES_MOST: u64 = 4294967295;
+pub const LINES_MOST: u64 = 4294967295;
 
 // What the order's lines said: its six numbers, in their order, and what it counts.
 pub struct Head {

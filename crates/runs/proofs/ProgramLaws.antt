@@ -11,9 +11,11 @@ use borrow.Author.Tests.{eqb-true, eqb-false}
 use Rattle.lists.proofs.Cases.{picked, both-picked}
 use Rattle.cache.specs.Cache.{referred, missesOver}
 use Rattle.lists.specs.Sums.{total}
+use Rattle.lists.specs.Tests.{All≤}
 use Rattle.taking.specs.World.{World}
 use Rattle.taking.specs.Opening.{unopened}
 use Rattle.order.specs.declared.Order.{Order}
+use Rattle.order.specs.Limits.{limits}
 use Rattle.taking.specs.Questions.{has, missesOf}
 use Rattle.taking.specs.declared.Counted.{Counted}
 use Rattle.lines.specs.declared.Kinds.{Kinds}
@@ -141,6 +143,10 @@ module _ (st ct : List ℕ) (lines : List (List ℕ)) (o : Outcome) (run : Runs 
     -- the order opened is that of the lines before the begin line
     pub program-order : o .left .reading .opened .order ≡ orderIn (headerOf lines)
     program-order = leads .end done .order
+
+    -- which is within its limits
+    pub program-limits : All≤ (limits (o .left .reading .opened .order))
+    program-limits = leads .end done .history .fitted .fit .numbers
 
     -- the misses given for each cache of that order are those of that one cache over what the lines give
     pub program-misses : (b s w : ℕ) → has (orderIn (headerOf lines)) b s w ≡ true

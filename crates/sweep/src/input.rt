@@ -1,170 +1,93 @@
-// Standard input, in chunks, cut into lines; and the run over all of them.
+// Standard input, in chunks, given to the reader up to the end or the first refusal.
+use feeding::Feeding;
 use libc::STDIN_FILENO;
-use lines::LONGEST;
-use reading::Reading;
-use reading::Step;
-use units::refusal;
 ghost use mathlib.Core.Path.{_≡_};
-ghost use Prim.Native.Nat.{_≤_};
+ghost use Prim.Native.Nat.{_<_};
 ghost use lib.ListN.{length};
-ghost use Rattle.lines.specs.Bytes.{longest};
 ghost use Rattle.reading.specs.Tables.{stackEntries, countEntries};
-ghost use Rattle.sweep.specs.Lines.{Fits, Found, Kept};
+ghost use Rattle.sweep.specs.Run.{Came, Ran};
 
-// The bytes of the chunk that are not taken yet: from `at` to `end`.
-pub(crate) struct Input {
-    pub at: usize,
-    pub end: usize,
+// The bytes that came next: the first `len` of the chunk, unless a read failed.
+struct More {
+    failed: bool,
+    // The input has no more.
+    last: bool,
+    len: usize,
 }
 
-// What the next line is.
-pub(crate) enum Next {
-    // So many bytes of the line buffer, and the input after it.
-    Line(usize, Input),
-    // A line that the line buffer cannot hold.
-    Long,
-    // There is no further line.
-    End,
-    // A read that failed. What came before is not the whole input.
-    Failed,
-}
-
-// How the run ended: the answer number and the state, unless a read failed.
+// How the input ended, unless a read failed: then what came before is not the whole input.
 pub(crate) struct Ended {
     pub failed: bool,
-    pub answer: u32,
-    pub reading: Reading,
+    pub feeding: Feeding,
 }
 
-// One line taken, or the end.
-struct Turn {
-    over: bool,
-    input: Input,
-    ended: Ended,
-}
-
-// Takes the next line into the line buffer, without its LF, which the last line may lack.
-fn next_line(input: Input, chunk: &mut [u8], line: &mut [u8]) -> Next
-    requires { ⌜ (length (now chunk) ≡ 65536) × (length (now line) ≡ longest) × Fits input ⌝ }
-    ensures { λ r. ⌜ Found r ⌝ }
+// Reads once. At the end of the input, a line that has begun gets the LF that it lacks.
+fn read_more(chunk: &mut [u8], begun: bool) -> More
+    requires { ⌜ 0 < length (now chunk) ⌝ }
+    ensures { λ r. ⌜ Came begun (now (chunk .exit)) r ⌝ }
 {
-    let mut at = input.at;
-    let mut end = input.end;
-    let mut len = 0usize;
-    loop {
-        if at >= end {
-            let got = libc::read(STDIN_FILENO, chunk);
-            if got < 0 {
-                return Next::Failed;
-            }
-            end = io::count(got, chunk);
-            at = 0;
-            if end == 0 {
-                if len == 0 {
-                    return Next::End;
-                }
-                return Next::Line(len, Input { at: 0, end: 0 });
-            }
-        }
-        let byte = chunk[at];
-        at += 1;
-        if byte == b'\n' {
-            return Next::Line(len, Input { at, end });
-        }
-        if len >= LONGEST {
-            return Next::Long;
-        }
-        line[len] = byte;
-        len += 1;
+    let got = libc::read(STDIN_FILENO, chunk);
+    if got < 0 {
+        return More {
+            failed: true,
+            last: true,
+            len: 0,
+        };
     }
-}
-
-// The run is over with this step.
-fn over(step: Step) -> Turn
-    ensures { λ r. ⌜ Kept r ⌝ }
-{
-    let reading = step.next;
-    Turn {
-        over: true,
-        input: Input { at: 0, end: 0 },
-        ended: Ended {
+    let len = io::count(got, chunk);
+    if len != 0 {
+        return More {
             failed: false,
-            answer: step.answer,
-            reading,
-        },
+            last: false,
+            len,
+        };
     }
-}
-
-// One line: taken and decided.
-fn one_line(
-    reading: Reading,
-    input: Input,
-    chunk: &mut [u8],
-    line: &mut [u8],
-    stacks: &mut [u32],
-    counts: &mut [u32],
-) -> Turn
-    requires { ⌜ (length (now chunk) ≡ 65536) × (length (now line) ≡ longest) × Fits input ⌝ }
-    ensures { λ r. ⌜ Kept r ⌝ }
-{
-    let found = next_line(input, chunk, line);
-    match found {
-        Next::Line(len, rest) => {
-            let step = reading.step(&line[..len], stacks, counts);
-            let next = step.next;
-            Turn {
-                over: step.answer != 0,
-                input: rest,
-                ended: Ended {
-                    failed: false,
-                    answer: step.answer,
-                    reading: next,
-                },
-            }
-        }
-        Next::Long => over(reading.long_line()),
-        Next::End => over(reading.ended()),
-        Next::Failed => Turn {
-            over: true,
-            input: Input { at: 0, end: 0 },
-            ended: Ended {
-                failed: true,
-                answer: 0,
-                reading,
-            },
-        },
+    if !begun {
+        return More {
+            failed: false,
+            last: true,
+            len: 0,
+        };
     }
-}
-
-// All lines, up to the first that is refused. The count of turns only shows that the run ends: the line after
-// 4,294,967,295 lines is refused.
-pub(crate) fn run(
-    chunk: &mut [u8],
-    line: &mut [u8],
-    stacks: &mut [u32],
-    counts: &mut [u32],
-) -> Ended
-    requires { ⌜
-        (length (now chunk) ≡ 65536) × (length (now line) ≡ longest)
-        × (length (now stacks) ≡ stackEntries) × (length (now counts) ≡ countEntries)
-        ⌝ }
-{
-    let mut reading = Reading::start();
-    let mut input = Input { at: 0, end: 0 };
-    let mut turns = 0u64;
-    while turns < 4294967296 {
-        let next = one_line(reading, input, chunk, line, stacks, counts);
-        let ended = next.ended;
-        if next.over {
-            return ended;
-        }
-        reading = ended.reading;
-        input = next.input;
-        turns += 1;
-    }
-    Ended {
+    chunk[0] = b'\n';
+    More {
         failed: false,
-        answer: refusal::TOO_MANY_LINES,
-        reading,
+        last: true,
+        len: 1,
+    }
+}
+
+// All bytes, up to the end or the first refusal. It ends: every byte takes from those that an input may still have.
+pub(crate) fn run(chunk: &mut [u8], stacks: &mut [u32], counts: &mut [u32]) -> Ended
+    requires { ⌜
+        (0 < length (now chunk)) × (length (now stacks) ≡ stackEntries) × (length (now counts) ≡ countEntries)
+        ⌝ }
+    ensures { λ r. ⌜ Ran (now (stacks .entry)) (now (counts .entry)) r (now (stacks .exit)) (now (counts .exit)) ⌝ }
+{
+    let mut feeding = Feeding::start();
+    loop {
+        let begun = feeding.len != 0;
+        let came = read_more(chunk, begun);
+        if came.failed {
+            return Ended {
+                failed: true,
+                feeding,
+            };
+        }
+        feeding = feeding.feed(&chunk[..came.len], stacks, counts);
+        if came.last {
+            let ended = feeding.ended();
+            return Ended {
+                failed: false,
+                feeding: ended,
+            };
+        }
+        let answer = feeding.answer;
+        if answer != 0 {
+            return Ended {
+                failed: false,
+                feeding,
+            };
+        }
     }
 }

@@ -3,7 +3,6 @@
 // only reading and printing.
 use input::run;
 use libc::STDERR_FILENO;
-use lines::LONGEST;
 use output::refused;
 use output::table;
 use reading::COUNT_ENTRIES;
@@ -16,9 +15,7 @@ fn main() {
     let mut stacks = [0u32; STACK_ENTRIES];
     let mut counts = [0u32; COUNT_ENTRIES];
     let mut chunk = [0u8; 65536];
-    // One line buffer, zero-filled at the start, serves order lines and trace lines.
-    let mut line = [0u8; LONGEST];
-    let ended = run(&mut chunk, &mut line, &mut stacks, &mut counts);
+    let ended = run(&mut chunk, &mut stacks, &mut counts);
     if ended.failed {
         io::write_all(
             STDERR_FILENO,
@@ -26,8 +23,10 @@ fn main() {
         );
         return;
     }
-    let reading = ended.reading;
-    if ended.answer == 0 {
+    let feeding = ended.feeding;
+    let reading = feeding.reading;
+    let answer = feeding.answer;
+    if answer == 0 {
         if !table(reading, &counts) {
             io::write_all(
                 STDERR_FILENO,
@@ -35,7 +34,7 @@ fn main() {
             );
         }
     } else {
-        if !refused(ended.answer, reading.lines) {
+        if !refused(answer, reading.lines) {
             io::write_all(
                 STDERR_FILENO,
                 b"sweep: standard output could not be written, so the refusal is not whole\n",

@@ -1,0 +1,77 @@
+-- The program's reader: it is one of those that the laws are about, and over lines it is the run of the program. Assumes nothing.
+use Prim.Native.Nat.{ℕ, _<_}
+use mathlib.Core.Path.{_≡_, refl, sym, ap, _∙_, subst}
+use mathlib.Core.Bool.{Bool, true, false, cond, not}
+use mathlib.Core.List.{List, [], _∷_, _++_}
+use native.Mathlib.Omega.{arith}
+use lib.Dec.{eqb}
+use lib.ListN.{length, replicate}
+use borrow.Author.Tests.{eqb-true, eqb-false, eq-eqb, ne-eqb}
+use Rattle.lists.proofs.Cases.{cases, picked}
+use Rattle.lines.specs.Bytes.{longest}
+use Rattle.reading.specs.declared.Reading.{Reading}
+use Rattle.reading.specs.declared.Step.{Step}
+use Rattle.reading.specs.Reading.{Desk, desk, Outcome, outcome, stays, start as noLine}
+use Rattle.reading.specs.Step.{isTooMany, inTrace, stepOf, longLine}
+use Rattle.reading.proofs.StepLaws.{long-line-is-step}
+use Rattle.runs.specs.Input.{runFrom}
+use Rattle.feeding.specs.declared.Feeding.{Feeding}
+use Rattle.feeding.specs.Lines.{lf, linesOf, joined}
+use Rattle.feeding.specs.Machine.{Held, feedByte, fed, inputEnds, finished, runOver}
+use Rattle.feeding.specs.Feeding.{byLines, start, heldBy}
+use Rattle.feeding.specs.Calls.{Calls, ended, last, feed}
+use Rattle.feeding.proofs.ByteLaws.{Sound}
+use Rattle.feeding.proofs.InputLaws.{input-run, fed-slices}
+
+pub long-refused : (v : Reading) → longLine v .answer ≡ 0 → ⊥
+long-refused v =
+    picked (λ (s : Step). s .answer ≡ 0 → ⊥) (isTooMany v)
+    (λ e z. omega arith)
+    (λ e. picked (λ (n : ℕ). n ≡ 0 → ⊥) (inTrace v) (λ f z. omega arith) (λ f z. omega arith))
+
+pub sound : Sound byLines
+sound = record {
+  many = λ o x e. simp e;
+  long = λ o x h. long-line-is-step (o .left) x h;
+  over = λ o. ap not (ne-eqb (longLine (o .left .reading) .answer) 0 (long-refused (o .left .reading)));
+}
+
+-- over lines, it is the run
+pub run-over : (lines : List (List ℕ)) (d : Desk) → runOver byLines (outcome 0 d) lines ≡ runFrom d lines
+unfolding runOver runFrom
+run-over [] d = refl
+run-over (line ∷ more) d =
+    let o = stepOf d line in
+    cases (eqb (o .answer) 0)
+    (λ e.
+    let done = eqb-true (o .answer) 0 e in
+    simp e (ap (λ (n : ℕ). runOver byLines (outcome n (o .left)) more) done ∙ run-over more (o .left)))
+    (λ e. simp e)
+
+-- the calls leave what the machine does with the bytes of all slices, and then their end
+pub calls-are : {f : Feeding} {st ct : List ℕ} {slices : List (List ℕ)} {d : Held Outcome} → Calls f st ct slices d
+    → d ≡ finished byLines (fed byLines (heldBy f st ct) (joined slices))
+unfolding joined
+calls-are (ended {f} {r} {st} {ct} none e) =
+    let d = heldBy f st ct in
+    e st ct ∙ sym (ap (λ (t : Bool). inputEnds byLines (cond t d (feedByte byLines d lf))) (eq-eqb (f .len) 0 none))
+calls-are (last {f} {g} {r} {st} {ct} {st′} {ct′} some c e) =
+    let d = heldBy f st ct in
+    e st′ ct′
+    ∙ ap (inputEnds byLines) c
+    ∙ sym (ap (λ (t : Bool). inputEnds byLines (cond t d (feedByte byLines d lf))) (ne-eqb (f .len) 0 some))
+calls-are (feed {f} {r} {bytes} {st} {ct} {st′} {ct′} {more} e rest) =
+    calls-are rest
+    ∙ ap (λ (x : Held Outcome). finished byLines (fed byLines x (joined more))) e
+    ∙ sym (ap (finished byLines) (fed-slices byLines sound (heldBy f st ct) bytes (joined more)))
+
+-- THE LAW, of the program: from the start, over the bytes of an input and its end, it is the run over the lines
+pub finished-run : (st ct bytes : List ℕ)
+    → finished byLines (fed byLines (heldBy start st ct) bytes) .state ≡ runFrom (desk noLine st ct) (linesOf bytes)
+finished-run st ct bytes =
+    input-run byLines sound (outcome 0 (desk noLine st ct)) (replicate longest 0) bytes refl refl ∙ run-over (linesOf bytes) (desk noLine st ct)
+
+-- so of the calls, in whatever slices the bytes come
+pub bytes-run : {st ct : List ℕ} {slices : List (List ℕ)} {d : Held Outcome} → Calls start st ct slices d
+    → d .state ≡ runFrom (desk noLine st ct) (linesOf (joined slices))
+bytes-run {st} {ct} {slices} c = ap (λ (d : Held Outcome). d .state) (calls-are c) ∙ finished-run st ct (joined slices)

@@ -1,0 +1,5 @@
+pub mod Calls
+pub mod Feeding
+pub mod Lines
+pub mod Machine
+pub mod Parts

@@ -1,0 +1,15 @@
+-- Some printed lines: each is computed. Assumes nothing.
+use mathlib.Core.Path.{_≡_, refl}
+use mathlib.Core.List.{[], _∷_}
+use Rattle.lines.specs.Bytes.{text}
+use Rattle.printing.specs.Printed.{placesFrom, fieldsAfter, headLines, cacheLine, refusalLine, decimalOf}
+
+pub printed-examples : headLines 8 0 ∷ cacheLine 4 1 2 5 ∷ cacheLine 12 14 16 4000000000 ∷ refusalLine 26 4294967296 ∷ decimalOf 0 ∷ []
+    ≡ text "edition=1\nrefs=8\nskipped=0\n"
+    ∷ text "b=4 s=1 w=2 misses=5\n"
+    ∷ text "b=12 s=14 w=16 misses=4000000000\n"
+    ∷ text "refused=26 line=4294967296\n"
+    ∷ text "0"
+    ∷ []
+unfolding placesFrom fieldsAfter
+printed-examples = refl

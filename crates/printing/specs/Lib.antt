@@ -1,0 +1,4 @@
+pub mod Forms
+pub mod Grid
+pub mod Output
+pub mod Printed

@@ -1,0 +1,65 @@
+-- What the program prints, as bytes (SCOPE, "Program, order lines and din lines"). Assumes nothing.
+use Prim.Native.Nat.{ℕ, zero, suc, _+_, _^_}
+use Prim.Native.Char.{code}
+use mathlib.Core.Bool.{cond}
+use mathlib.Core.List.{List, [], _∷_, _++_}
+use lib.Dec.{eqb, ltb}
+use Rattle.io.specs.Digits.{digits}
+use Rattle.lines.specs.Bytes.{text}
+use Rattle.taking.specs.declared.Opened.{Opened}
+use Rattle.taking.specs.Questions.{missesOf}
+use Rattle.reading.specs.declared.Reading.{Reading}
+use Rattle.printing.specs.declared.Walk.{Walk}
+use Rattle.printing.specs.Grid.{gridOf}
+
+-- ---- a number
+
+-- the least of k, k + 1, .. digits that hold n; `more` bounds the search
+unfoldable pub placesFrom : ℕ → ℕ → ℕ → ℕ
+placesFrom zero k n = k
+placesFrom (suc more) k n = cond (ltb n (10 ^ k)) k (placesFrom more (suc k) n)
+
+-- in decimal without leading zeros: 1 to 20 digits, as a number of 64 bits has
+abbrev pub decimalOf : ℕ → List ℕ
+decimalOf n = digits 10 (placesFrom 19 1 n) n
+
+-- ---- a line: fields NAME=NUMBER with a space between, and LF
+
+abbrev pub Field : Type 0
+Field = List ℕ × ℕ
+
+abbrev pub fieldOf : Field → List ℕ
+fieldOf f = f .0 ++ (code "=" ∷ decimalOf (f .1))
+
+unfoldable pub fieldsAfter : List Field → List ℕ
+fieldsAfter [] = code "\n" ∷ []
+fieldsAfter (f ∷ more) = code " " ∷ (fieldOf f ++ fieldsAfter more)
+
+abbrev pub lineOf : Field → List Field → List ℕ
+lineOf f more = fieldOf f ++ fieldsAfter more
+
+-- ---- the output
+
+abbrev pub headLines : ℕ → ℕ → List ℕ
+headLines refs skipped = lineOf (text "edition", 1) [] ++ (lineOf (text "refs", refs) [] ++ lineOf (text "skipped", skipped) [])
+
+abbrev pub cacheLine : ℕ → ℕ → ℕ → ℕ → List ℕ
+cacheLine b s w misses = lineOf (text "b", b) ((text "s", s) ∷ (text "w", w) ∷ (text "misses", misses) ∷ [])
+
+abbrev pub refusalLine : ℕ → ℕ → List ℕ
+refusalLine answer line = lineOf (text "refused", answer) ((text "line", line) ∷ [])
+
+-- the line of one cache, and the lines of these one after the other
+abbrev pub lineAt : Opened → List ℕ → Walk → List ℕ
+lineAt v ct c = cacheLine (c .b) (c .s) (c .w) (missesOf v ct (c .b) (c .s) (c .w) .misses)
+
+unfoldable pub linesBy : (Walk → List ℕ) → List Walk → List ℕ
+linesBy line [] = []
+linesBy line (c ∷ more) = line c ++ linesBy line more
+
+abbrev pub tableOf : Opened → ℕ → List ℕ → List ℕ
+tableOf v skipped ct = headLines (v .taken) skipped ++ linesBy (lineAt v ct) (gridOf (v .order))
+
+-- THE OUTPUT: the table, or the refusal alone
+abbrev pub outputOf : ℕ → Reading → List ℕ → List ℕ
+outputOf answer v ct = cond (eqb answer 0) (tableOf (v .opened) (v .tally .skipped) ct) (refusalLine answer (v .lines))
