@@ -2,7 +2,7 @@
 -- proved here: each line below a statement names its proof. Assumes nothing.
 use Prim.Native.Nat.{ℕ, suc, _+_, _*_, _^_, _≤_, _<_}
 use mathlib.Core.Path.{_≡_, ap, _∙_}
-use mathlib.Core.Bool.{true, cond, not}
+use mathlib.Core.Bool.{true, false, cond, not}
 use mathlib.Core.List.{List, [], _∷_, _++_, map}
 use lib.Dec.{eqb, ltb}
 use lib.ListN.{length, take, drop, getD, replicate}
@@ -33,13 +33,23 @@ use Rattle.calls.proofs.CallLaws.{call-refused, calls-there}
 use Rattle.strip.specs.declared.Stripped.{Stripped}
 use Rattle.strip.specs.Strip.{keptOf, stripLimits, Strips}
 use Rattle.strip.proofs.StripClaims.{strip-refused, strip-short, strip-untouched, left-is-kept, kept-as-before, dropped-hit, misses-same}
-use Rattle.reading.specs.Reading.{desk, Outcome, start}
+use Rattle.reading.specs.Reading.{desk, Outcome, stays, start}
+use Rattle.reading.specs.Step.{isTooMany, longLine}
 use Rattle.reading.specs.Tables.{Allotted}
 use Rattle.reading.proofs.TableLaws.{opening-in-program}
 use Rattle.runs.specs.Input.{Runs, headerOf, traceOf, orderIn, givenOf}
 use Rattle.runs.specs.Endings.{inputEnding}
 use Rattle.runs.proofs.EndingLaws.{run-listed}
 use Rattle.runs.proofs.ProgramLaws.{program-answer, program-line, program-misses, program-refs, program-skipped}
+use Rattle.feeding.specs.declared.Feeding.{Feeding}
+use Rattle.feeding.specs.Calls.{Calls as Feeds}
+use Rattle.feeding.specs.Feeding.{byLines, start as noByte}
+use Rattle.feeding.specs.Lines.{lf, linesOf, joined}
+use Rattle.feeding.specs.Machine.{Held, held, fed}
+use Rattle.feeding.proofs.RunLaws.{calls-there as feeds-there}
+use Rattle.printing.specs.Printed.{outputOf}
+use Rattle.printing.specs.Output.{printedFor}
+use Rattle.claims.proofs.ByteOutcomes as bytes
 use Rattle.claims.proofs.CallOutcomes as outcomes
 
 -- ==== Demand 1: a refusal comes exactly in the case listed for it, returns its number, and leaves each lent table as listed
@@ -228,6 +238,33 @@ module _ (st ct : List ℕ) (lines : List (List ℕ)) (o : Outcome) (run : Runs 
 
   pub skipped-printed : o .left .reading .opened .taken + o .left .reading .tally .skipped ≡ length (traceOf lines)
   skipped-printed = program-skipped st ct lines o run done
+
+-- ---- and from bytes to bytes: an input comes in any slices, and is cut into lines at each LF (crates/feeding/specs/Lines.antt)
+
+module _ (st ct : List ℕ) (slices : List (List ℕ)) (d : Held Outcome) (feeds : Feeds noByte st ct slices d) where
+  -- calls within the contracts of `feed` and `ended` leave what a run over the lines of these bytes leaves, so that demands 1 and 2 hold of it
+  pub demand-1-bytes : Runs (desk start st ct) (linesOf (joined slices)) (d .state)
+  demand-1-bytes = bytes.bytes-are-run st ct slices d feeds
+
+  -- and what is to be printed then is what is defined for the bytes alone (crates/printing/specs/Output.antt): the refusal and its line, or the
+  -- whole table in its order, in which each number is `missesOver` of that one cache over what the lines give
+  pub demand-2-bytes : outputOf (d .state .answer) (d .state .left .reading) (d .state .left .counts) ≡ printedFor st ct (joined slices)
+  demand-2-bytes = bytes.bytes-printed st ct slices d feeds
+
+-- there are such calls, whatever the slices
+pub feeds-exist : (slices : List (List ℕ)) (f : Feeding) (st ct : List ℕ) → (d : Held Outcome) × Feeds f st ct slices d
+feeds-exist = feeds-there
+
+-- 26 comes at the first byte of the line too many, and a line too long ends the run at its 256th byte, whatever follows
+module _ (o : Outcome) (line : List ℕ) (goes : o .answer ≡ 0) (rest : List ℕ) where
+  pub too-many-at-once : isTooMany (o .left .reading) ≡ true → (b : ℕ)
+      → fed byLines (held o 0 line) (b ∷ rest) .state ≡ stays (longLine (o .left .reading)) (o .left)
+  too-many-at-once = bytes.many-refused o line goes rest
+
+  pub too-long-at-once : isTooMany (o .left .reading) ≡ false → (part : List ℕ) → length part ≡ 255
+      → ((i : ℕ) → i < length part → getD part i 0 ≡ lf → ⊥) → (b : ℕ) → (b ≡ lf → ⊥)
+      → fed byLines (held o 0 line) (part ++ (b ∷ rest)) .state ≡ stays (longLine (o .left .reading)) (o .left)
+  too-long-at-once = bytes.long-refused o line goes rest
 
 -- ---- the twelve cases at b = 4
 

@@ -1,2 +1,3 @@
+pub mod ByteOutcomes
 pub mod CallOutcomes
 pub mod Claims

@@ -12,13 +12,13 @@ use Rattle.lines.specs.Bytes.{longest}
 use Rattle.reading.specs.declared.Reading.{Reading}
 use Rattle.reading.specs.declared.Step.{Step}
 use Rattle.reading.specs.Reading.{Desk, desk, Outcome, outcome, stays, start as noLine}
-use Rattle.reading.specs.Step.{isTooMany, inTrace, stepOf, longLine}
+use Rattle.reading.specs.Step.{isTooMany, inTrace, stepOf, longLine, ended as noMore}
 use Rattle.reading.proofs.StepLaws.{long-line-is-step}
 use Rattle.runs.specs.Input.{runFrom}
 use Rattle.feeding.specs.declared.Feeding.{Feeding}
 use Rattle.feeding.specs.Lines.{lf, linesOf, joined}
-use Rattle.feeding.specs.Machine.{Held, feedByte, fed, inputEnds, finished, runOver}
-use Rattle.feeding.specs.Feeding.{byLines, start, heldBy}
+use Rattle.feeding.specs.Machine.{Held, held, feedByte, fed, inputEnds, finished, runOver}
+use Rattle.feeding.specs.Feeding.{byLines, start, heldBy, Ends}
 use Rattle.feeding.specs.Calls.{Calls, ended, last, feed}
 use Rattle.feeding.proofs.ByteLaws.{Sound}
 use Rattle.feeding.proofs.InputLaws.{input-run, fed-slices}
@@ -75,3 +75,36 @@ finished-run st ct bytes =
 pub bytes-run : {st ct : List ℕ} {slices : List (List ℕ)} {d : Held Outcome} → Calls start st ct slices d
     → d .state ≡ runFrom (desk noLine st ct) (linesOf (joined slices))
 bytes-run {st} {ct} {slices} c = ap (λ (d : Held Outcome). d .state) (calls-are c) ∙ finished-run st ct (joined slices)
+
+-- ---- there are such calls, whatever the slices
+
+abbrev feedingOf : Held Outcome → Feeding
+feedingOf d = record { reading = d .state .left .reading; answer = d .state .answer; len = d .len; line = d .line }
+
+-- what the end of the input leaves
+abbrev endsAs : Feeding → Feeding
+endsAs f =
+    cond (eqb (f .answer) 0)
+    (record { reading = noMore (f .reading) .next; answer = noMore (f .reading) .answer; len = f .len; line = f .line })
+    f
+
+ends-there : (f : Feeding) → Ends f (endsAs f)
+ends-there f st ct = by (eqb (f .answer) 0)
+  where
+    by : (t : Bool)
+        → heldBy (cond t (record { reading = noMore (f .reading) .next; answer = noMore (f .reading) .answer; len = f .len; line = f .line }) f) st ct
+        ≡ held (cond (not t) (outcome (f .answer) (desk (f .reading) st ct)) (stays (noMore (f .reading)) (desk (f .reading) st ct))) (f .len) (f .line)
+    by true = refl
+    by false = refl
+
+pub calls-there : (slices : List (List ℕ)) (f : Feeding) (st ct : List ℕ) → (d : Held Outcome) × Calls f st ct slices d
+calls-there [] f st ct =
+    let g = feedingOf (feedByte byLines (heldBy f st ct) lf) in
+    let after = feedByte byLines (heldBy f st ct) lf .state .left in
+    cases (eqb (f .len) 0)
+    (λ e. (heldBy (endsAs f) st ct, ended (eqb-true (f .len) 0 e) (ends-there f)))
+    (λ e. (heldBy (endsAs g) (after .stacks) (after .counts), last (eqb-false (f .len) 0 e) refl (ends-there g)))
+calls-there (bytes ∷ more) f st ct =
+    let d = fed byLines (heldBy f st ct) bytes in
+    let rest = calls-there more (feedingOf d) (d .state .left .stacks) (d .state .left .counts) in
+    (rest .0, feed refl (rest .1))

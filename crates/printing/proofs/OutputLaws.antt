@@ -90,7 +90,7 @@ module _ (st ct : List ℕ) (lines : List (List ℕ)) (o : Outcome) (run : Runs 
 
 -- ---- the output
 
-run-printed : (st ct : List ℕ) (lines : List (List ℕ)) (o : Outcome) → Runs (desk noLine st ct) lines o
+pub run-printed : (st ct : List ℕ) (lines : List (List ℕ)) (o : Outcome) → Runs (desk noLine st ct) lines o
     → let e = inputEnding (unopened st ct) [] lines in
     outputOf (o .answer) (o .left .reading) (o .left .counts) ≡ cond (eqb (e .answer) 0) (tableOver lines) (refusalLine (e .answer) (e .line))
 run-printed st ct lines o run =
