@@ -1,5 +1,5 @@
--- What the private functions of this crate promise one another. A block is told by size: x k is the block at size k. No public contract cites this
--- page, but for what `Fit` says of a state. Assumes nothing.
+-- What the private functions of this crate promise one another. A block is told by size: x k is the block at size k. No public contract cites
+-- this page. Assumes nothing.
 use Prim.Native.Nat.{ℕ, _+_, _*_, _≤_, _<_}
 use mathlib.Core.Path.{_≡_}
 use mathlib.Core.Bool.{Bool, true, not, _||_}

@@ -1,14 +1,19 @@
 -- `Order::count_need` meets its contract: within the limits the product is small. Assumes nothing.
-use mathlib.Core.Path.{sym, ap₂, _∙_}
+use mathlib.Core.Path.{sym, ap, ap₂, _∙_}
+use mathlib.Core.Bool.{Bool, cond}
 use Prim.Native.Nat.{_*_}
 use borrow.Author.Needs.{needs}
 use native.Mathlib.Omega.{arith}
+use Rattle.order.specs.Limits.{countNeed}
 use Rattle.order.proofs.LimitLaws.{within-no, within-test, within-yes, needs-small, need-spans}
 use Rattle.order.proofs.Order.count_need.Statement.{statement}
 use Rattle.order.proofs.Order.count_need.Tie as tie
 
 returns : tie.Need-returns
-returns c = simp (within-no (c .before .before .args .self) _ (c .before .is-within .ensures) (c .if1 .taken))
+returns c =
+    let o = c .before .before .args .self in
+    let out = within-no o _ (c .before .is-within .ensures) (c .if1 .taken) in
+    sym (ap (λ (t : Bool). cond t (countNeed o) 0) out)
 
 mul-result : tie.Need-mul-result
 mul-result c =

@@ -1,6 +1,8 @@
 -- `Order::new` meets its contract: the test picks the case, of the answer and of the order alike. Assumes nothing.
 use borrow.Author.Needs.{needs}
-use mathlib.Core.Path.{sym, _∙_}
+use mathlib.Core.Path.{sym, ap, _∙_}
+use mathlib.Core.Bool.{Bool, cond, not}
+use Rattle.units.specs.Refusals.{outsideLimits}
 use Rattle.order.proofs.Order.new.Statement.{statement}
 use Rattle.order.proofs.Order.new.Tie as tie
 
@@ -12,7 +14,7 @@ returns c =
 returns-2 : tie.Need-returns-2
 returns-2 c =
     let fails = sym (c .before .before .is-within .ensures) ∙ c .before .if1 .left in
-    record { answer = simp fails; order = simp fails (c .none .ensures) }
+    record { answer = ap (λ (t : Bool). cond (not t) outsideLimits 0) (sym fails); order = simp fails (c .none .ensures) }
 
 -- closed by search
 pub new-spec : {M : Type 1} → statement M
