@@ -13,7 +13,7 @@ use Rattle.lists.proofs.PartLaws.{row-in}
 use Rattle.lists.proofs.TestLaws.{all-facts}
 use Rattle.order.specs.Limits.{limits, within}
 use Rattle.printing.specs.declared.Walk.{Walk}
-use Rattle.printing.specs.Grid.{eachFrom, at, gridOf, firstOf, nextOf, Walks, ended, goes}
+use Rattle.printing.specs.Grid.{eachFrom, at, gridOf, firstCache, nextCache, Walks, ended, goes}
 
 module _ (o : Order) where
   -- from c on, these caches and then those from c′ on
@@ -35,7 +35,7 @@ module _ (o : Order) where
       subst (Walks o (from a)) (sym (append-assoc (f a) (eachFrom f (a + 1) n) rest)) (first (eachFrom f (a + 1) n ++ rest) (tail rest w))
 
   -- one cache
-  one : (b s w : ℕ) (c′ : Walk) → nextOf o (at b s w) ≡ c′ → Leads (at b s w) (at b s w ∷ []) c′
+  one : (b s w : ℕ) (c′ : Walk) → nextCache o (at b s w) ≡ c′ → Leads (at b s w) (at b s w ∷ []) c′
   one b s w c′ e rest walk = goes refl (subst (λ (c : Walk). Walks o c rest) (sym e) walk)
 
   module _ (some : 1 ≤ o .ways) where
@@ -45,39 +45,39 @@ module _ (o : Order) where
     abbrev sets : ℕ → List Walk
     sets b = eachFrom (ways b) 0 (o .smax)
 
-    row : (b s : ℕ) (c′ : Walk) → nextOf o (at b s (o .ways)) ≡ c′ → Leads (at b s 1) (ways b s) c′
+    row : (b s : ℕ) (c′ : Walk) → nextCache o (at b s (o .ways)) ≡ c′ → Leads (at b s 1) (ways b s) c′
     row b s c′ e =
         let all : 1 + (o .ways - 1) ≡ o .ways = omega arith in
         each-leads (λ w. at b s w ∷ []) (λ w. at b s w) c′ (o .ways - 1) 1
         (λ k h. let less = lt-ltb (1 + k) (o .ways) (omega arith) in one b s (1 + k) (at b s (1 + k + 1)) (simp less))
         (subst (λ (w : ℕ). Leads (at b s w) (at b s w ∷ []) c′) (sym all) (one b s (o .ways) c′ e))
 
-    rows : (b : ℕ) (c′ : Walk) → nextOf o (at b (o .smax) (o .ways)) ≡ c′ → Leads (at b 0 1) (sets b) c′
+    rows : (b : ℕ) (c′ : Walk) → nextCache o (at b (o .smax) (o .ways)) ≡ c′ → Leads (at b 0 1) (sets b) c′
     rows b c′ e =
         let full = le-ltb (o .ways) (o .ways) (omega arith) in
         each-leads (ways b) (λ s. at b s 1) c′ (o .smax) 0
         (λ k h. let less = lt-ltb (0 + k) (o .smax) (omega arith) in row b (0 + k) (at b (0 + k + 1) 1) (simp (full, less)))
         (subst (λ (s : ℕ). Leads (at b s 1) (ways b s) c′) (omega arith) (row b (o .smax) c′ e))
 
-    grid : o .bmin .0 ≤ o .bmax .0 → Walks o (firstOf o) (gridOf o)
+    grid : o .bmin .0 ≤ o .bmax .0 → Walks o (firstCache o) (gridOf o)
     grid h =
         let full = le-ltb (o .ways) (o .ways) (omega arith) in
         let whole = le-ltb (o .smax) (o .smax) (omega arith) in
         let most = le-ltb (o .bmax .0) (o .bmax .0) (omega arith) in
         let n = o .bmax .0 - o .bmin .0 in
         let last : o .bmax .0 ≡ o .bmin .0 + n = omega arith in
-        let end = nextOf o (at (o .bmax .0) (o .smax) (o .ways)) in
+        let end = nextCache o (at (o .bmax .0) (o .smax) (o .ways)) in
         let over : end .over ≡ true = simp (full, whole, most) in
-        let leads : Leads (firstOf o) (gridOf o) end =
+        let leads : Leads (firstCache o) (gridOf o) end =
         each-leads sets (λ b. at b 0 1) end n (o .bmin .0)
         (λ k g.
         let less = lt-ltb (o .bmin .0 + k) (o .bmax .0) (omega arith) in
         rows (o .bmin .0 + k) (at (o .bmin .0 + k + 1) 0 1) (simp (full, whole, less)))
         (subst (λ (b : ℕ). Leads (at b 0 1) (sets b) end) last (rows (o .bmax .0) end refl)) in
-        subst (Walks o (firstOf o)) (append-nil (gridOf o)) (leads [] (ended over))
+        subst (Walks o (firstCache o)) (append-nil (gridOf o)) (leads [] (ended over))
 
 -- THE LAW: of an order within its limits, the walk is the grid
-pub walk-is-grid : (o : Order) → within o ≡ true → Walks o (firstOf o) (gridOf o)
+pub walk-is-grid : (o : Order) → within o ≡ true → Walks o (firstCache o) (gridOf o)
 walk-is-grid o e = let f = all-facts (limits o) e in grid o (omega (arith, f)) (omega (arith, f))
 
 -- ---- the walk ends, whatever the order: the caches that are left
@@ -91,9 +91,9 @@ rowsLeft o c = (o .bmax .0 - c .b) * (o .smax + 1) + (o .smax - c .s)
 abbrev pub leftOf : Order → Walk → ℕ
 leftOf o c = cond (c .over) 0 (suc (rowsLeft o c * (o .ways + 1) + (o .ways - c .w)))
 
-pub next-less : (o : Order) (c : Walk) → c .over ≡ false → leftOf o (nextOf o c) < leftOf o c
+pub next-less : (o : Order) (c : Walk) → c .over ≡ false → leftOf o (nextCache o c) < leftOf o c
 next-less o c going =
-    subst (λ (t : Bool). leftOf o (nextOf o c) < cond t 0 (suc (rowsLeft o c * (o .ways + 1) + (o .ways - c .w)))) (sym going)
+    subst (λ (t : Bool). leftOf o (nextCache o c) < cond t 0 (suc (rowsLeft o c * (o .ways + 1) + (o .ways - c .w)))) (sym going)
     (cases (ltb (c .w) (o .ways))
     (λ e. let less = ltb-true (c .w) (o .ways) e in simp e (omega arith))
     (λ e. cases (ltb (c .s) (o .smax))

@@ -21,12 +21,12 @@ abbrev pub gridOf : Order → List Walk
 gridOf o =
     eachFrom (λ b. eachFrom (λ s. eachFrom (λ w. at b s w ∷ []) 1 (o .ways - 1)) 0 (o .smax)) (o .bmin .0) (o .bmax .0 - o .bmin .0)
 
-abbrev pub firstOf : Order → Walk
-firstOf o = at (o .bmin .0) 0 1
+abbrev pub firstCache : Order → Walk
+firstCache o = at (o .bmin .0) 0 1
 
 -- the next cache; after the last the walk is over
-abbrev pub nextOf : Order → Walk → Walk
-nextOf o c =
+abbrev pub nextCache : Order → Walk → Walk
+nextCache o c =
     cond (ltb (c .w) (o .ways)) (at (c .b) (c .s) (c .w + 1))
     (cond (ltb (c .s) (o .smax)) (at (c .b) (c .s + 1) 1)
     (cond (ltb (c .b) (o .bmax .0)) (at (c .b + 1) 0 1) (record { over = true; b = 0; s = 0; w = 0 })))
@@ -34,4 +34,4 @@ nextOf o c =
 -- the walk from a cache on: these caches, and then it is over
 pub data Walks (o : Order) : Walk → List Walk → Type 0 where
   ended : {c : Walk} → c .over ≡ true → Walks o c []
-  goes : {c : Walk} {more : List Walk} → c .over ≡ false → Walks o (nextOf o c) more → Walks o c (c ∷ more)
+  goes : {c : Walk} {more : List Walk} → c .over ≡ false → Walks o (nextCache o c) more → Walks o c (c ∷ more)

@@ -8,7 +8,7 @@ ghost use Prim.Native.Nat.{_+_, _≤_};
 ghost use lib.ListN.{length, getD};
 ghost use Rattle.printing.specs.Printed.{decimalOf, headLines, lineAt, refusalLine};
 ghost use Rattle.printing.specs.Forms.{filled, most, Puts, Prints};
-ghost use Rattle.printing.specs.Grid.{firstOf, nextOf};
+ghost use Rattle.printing.specs.Grid.{firstCache, nextCache};
 
 // How long a lent buffer must be: the longest line of this edition has 97 bytes at most.
 pub const LINE_MOST: usize = 128;
@@ -24,7 +24,7 @@ pub struct Walk {
 impl Walk {
     // At the first cache of the table.
     pub fn first(order: Order) -> Walk
-        ensures { λ r. ⌜ r ≡ firstOf order ⌝ }
+        ensures { λ r. ⌜ r ≡ firstCache order ⌝ }
     {
         Walk {
             over: false,
@@ -36,7 +36,7 @@ impl Walk {
 
     // The next cache: w upward, then s, then b.
     pub fn next(self, order: Order) -> Walk
-        ensures { λ r. ⌜ r ≡ nextOf order self ⌝ }
+        ensures { λ r. ⌜ r ≡ nextCache order self ⌝ }
     {
         let b = self.b;
         let s = self.s;

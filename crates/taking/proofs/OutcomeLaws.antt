@@ -97,12 +97,6 @@ module _ (v : Opened) (st : List ℕ) (x : ℕ → ℕ) (m : ℕ) (ps ds : List 
 pub same-blocks : (v : Opened) (a first : ℕ) → first ≡ blockOf (v .order .bmin .0) a → widerBy first ≡ blockAt v a
 same-blocks v a first e = fun-ext (λ k. ap (blockOf k) e ∙ sym (block-wider (v .order .bmin .0) k a))
 
--- a scratch array at its start
-pub getD-zeros : (n i : ℕ) → _≡_ {A = ℕ} (getD (replicate n 0) i 0) 0
-getD-zeros zero i = refl
-getD-zeros (suc n) zero = refl
-getD-zeros (suc n) (suc i) = getD-zeros n i
-
 -- where no count is over, each can go up by one
 pub raisable-of : (n r w taken : ℕ) (ct : List ℕ) (f : ℕ → Bool) (d : ℕ → ℕ → ℕ) → taken ≤ countMost → overGroups w r f d taken n ct ≡ false
     → AllRaisable n r w f d ct

@@ -9,13 +9,14 @@ use lib.ListN.{length, getD}
 use borrow.Author.Needs.{needs}
 use Rattle.lists.specs.Tables.{raisedGroups, overGroups}
 use Rattle.lists.specs.Tests.{anyTo}
+use Rattle.lists.proofs.ZeroLaws.{zeros-at}
 use Rattle.cache.specs.Cache.{blockOf}
 use Rattle.order.specs.Limits.{sizes as sizesOf, rows as rowsOf}
 use Rattle.taking.specs.Places.{blockAt, fullAt}
 use Rattle.taking.specs.Plain.{overAll}
 use Rattle.taking.specs.Parts.{countMost, Looked, Tabled, AllMoved, widerBy, foundBy, deepBy}
 use Rattle.taking.proofs.NeedLaws.{fit-walk, grid-of}
-use Rattle.taking.proofs.OutcomeLaws.{answer-late, refused, done, same-blocks, getD-zeros}
+use Rattle.taking.proofs.OutcomeLaws.{answer-late, refused, done, same-blocks}
 use Rattle.taking.proofs.OutcomeLaws.{full-is, over-is, counts-is, falling-of, raisable-of, room-of}
 use Rattle.taking.proofs.Opened.take_deep.Statement.{statement}
 use Rattle.taking.proofs.Opened.take_deep.Tie as tie
@@ -106,7 +107,7 @@ over-at c a e =
 look-requires : tie.Need-look-requires
 look-requires c κs =
     let s = c .before .before .before .before .before .before .before .before .before .before .before in
-    (fit-walk _ _ _ (s .pre .0), record { places = refl; depths = refl; zero = getD-zeros 120 })
+    (fit-walk _ _ _ (s .pre .0), record { places = refl; depths = refl; zero = zeros-at 120 })
 
 is-full-requires : tie.Need-is-full-requires
 is-full-requires c κs =
