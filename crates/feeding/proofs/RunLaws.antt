@@ -12,13 +12,14 @@ use Rattle.lines.specs.Bytes.{longest}
 use Rattle.reading.specs.declared.Reading.{Reading}
 use Rattle.reading.specs.declared.Step.{Step}
 use Rattle.reading.specs.Reading.{Desk, desk, Outcome, outcome, stays, start as noLine}
-use Rattle.reading.specs.Step.{isTooMany, inTrace, stepOf, longLine}
+use Rattle.reading.specs.Step.{isTooMany, inTrace, stepOf, longLine, ended as noMore}
 use Rattle.reading.proofs.StepLaws.{long-line-is-step}
-use Rattle.runs.specs.Input.{runFrom}
+use Rattle.runs.specs.Input.{Runs, runFrom}
+use Rattle.runs.proofs.InputLaws.{run-there}
 use Rattle.feeding.specs.declared.Feeding.{Feeding}
 use Rattle.feeding.specs.Lines.{lf, linesOf, joined}
-use Rattle.feeding.specs.Machine.{Held, feedByte, fed, inputEnds, finished, runOver}
-use Rattle.feeding.specs.Feeding.{byLines, start, heldBy}
+use Rattle.feeding.specs.Machine.{Held, held, feedByte, fed, inputEnds, finished, runOver}
+use Rattle.feeding.specs.Feeding.{byLines, start, heldBy, Ends}
 use Rattle.feeding.specs.Calls.{Calls, ended, last, feed}
 use Rattle.feeding.proofs.ByteLaws.{Sound}
 use Rattle.feeding.proofs.InputLaws.{input-run, fed-slices}
@@ -75,3 +76,51 @@ finished-run st ct bytes =
 pub bytes-run : {st ct : List ℕ} {slices : List (List ℕ)} {d : Held Outcome} → Calls start st ct slices d
     → d .state ≡ runFrom (desk noLine st ct) (linesOf (joined slices))
 bytes-run {st} {ct} {slices} c = ap (λ (d : Held Outcome). d .state) (calls-are c) ∙ finished-run st ct (joined slices)
+
+-- they are a run over these lines, so what is said of such runs is said of the bytes
+pub bytes-runs : {st ct : List ℕ} {slices : List (List ℕ)} {d : Held Outcome} → Calls start st ct slices d
+    → Runs (desk noLine st ct) (linesOf (joined slices)) (d .state)
+bytes-runs {st} {ct} {slices} c =
+    subst (Runs (desk noLine st ct) (linesOf (joined slices))) (sym (bytes-run c)) (run-there (linesOf (joined slices)) (desk noLine st ct))
+
+-- and there are such calls, whatever the slices
+abbrev There : Feeding → List ℕ → List ℕ → List (List ℕ) → Type 0
+There f st ct slices = Calls f st ct slices (finished byLines (fed byLines (heldBy f st ct) (joined slices)))
+
+-- the state that is held, as a struct
+abbrev stateOf : Held Outcome → Feeding
+stateOf d = record { reading = d .state .left .reading; answer = d .state .answer; len = d .len; line = d .line }
+
+-- the end of the input, of that state
+abbrev afterEnd : Feeding → Feeding
+afterEnd f = let s = noMore (f .reading) in record { reading = s .next; answer = s .answer; len = f .len; line = f .line }
+
+abbrev endOf : Feeding → Feeding
+endOf f = cond (eqb (f .answer) 0) (afterEnd f) f
+
+end-is : (f : Feeding) → Ends f (endOf f)
+end-is f st ct =
+    let d = heldBy f st ct in
+    let ours : Bool → Held Outcome = λ (t : Bool). heldBy (cond t (afterEnd f) f) st ct in
+    let theirs : Bool → Held Outcome = λ (t : Bool). held (cond (not t) (d .state) (byLines .ended (d .state))) (d .len) (d .line) in
+    cases (eqb (f .answer) 0) (λ e. ap ours e ∙ sym (ap theirs e)) (λ e. ap ours e ∙ sym (ap theirs e))
+
+pub calls-there : (slices : List (List ℕ)) (f : Feeding) (st ct : List ℕ) → There f st ct slices
+unfolding joined
+calls-there [] f st ct =
+    cases (eqb (f .len) 0)
+    (λ e.
+    let none = eqb-true (f .len) 0 e in
+    let c : Calls f st ct [] (heldBy (endOf f) st ct) = ended none (end-is f) in
+    subst (Calls f st ct []) (calls-are c) c)
+    (λ e.
+    let some = eqb-false (f .len) 0 e in
+    let d = fed byLines (heldBy f st ct) (lf ∷ []) in
+    let c : Calls f st ct [] (heldBy (endOf (stateOf d)) (d .state .left .stacks) (d .state .left .counts)) =
+    last {g = stateOf d} some refl (end-is (stateOf d)) in
+    subst (Calls f st ct []) (calls-are c) c)
+calls-there (bytes ∷ more) f st ct =
+    let d = fed byLines (heldBy f st ct) bytes in
+    let rest = calls-there more (stateOf d) (d .state .left .stacks) (d .state .left .counts) in
+    let c : Calls f st ct (bytes ∷ more) _ = feed {r = stateOf d} refl rest in
+    subst (Calls f st ct (bytes ∷ more)) (calls-are c) c
