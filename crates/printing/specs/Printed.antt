@@ -6,6 +6,7 @@ use mathlib.Core.List.{List, [], _∷_, _++_}
 use lib.Dec.{eqb, ltb}
 use Rattle.io.specs.Digits.{digits}
 use Rattle.lines.specs.Bytes.{text}
+use Rattle.taking.specs.declared.Counted.{Counted}
 use Rattle.taking.specs.declared.Opened.{Opened}
 use Rattle.taking.specs.Questions.{missesOf}
 use Rattle.reading.specs.declared.Reading.{Reading}
@@ -49,10 +50,14 @@ cacheLine b s w misses = lineOf (text "b", b) ((text "s", s) ∷ (text "w", w) �
 abbrev pub refusalLine : ℕ → ℕ → List ℕ
 refusalLine answer line = lineOf (text "refused", answer) ((text "line", line) ∷ [])
 
--- the line of one cache, and the lines of these one after the other
-abbrev pub lineAt : Opened → List ℕ → Walk → List ℕ
-lineAt v ct c = cacheLine (c .b) (c .s) (c .w) (missesOf v ct (c .b) (c .s) (c .w) .misses)
+-- the line of one cache, by what the question gives: nothing is invented beside a refusal
+abbrev pub lineBy : Walk → Counted → List ℕ
+lineBy c q = cond (eqb (q .answer) 0) (cacheLine (c .b) (c .s) (c .w) (q .misses)) []
 
+abbrev pub lineAt : Opened → List ℕ → Walk → List ℕ
+lineAt v ct c = lineBy c (missesOf v ct (c .b) (c .s) (c .w))
+
+-- the lines of caches, one after the other
 unfoldable pub linesBy : (Walk → List ℕ) → List Walk → List ℕ
 linesBy line [] = []
 linesBy line (c ∷ more) = line c ++ linesBy line more
