@@ -1,32 +1,26 @@
 -- What the laws of bytes come to for the program's reader, put as the claims say it. Assumes nothing.
 use Prim.Native.Nat.{ℕ, _<_}
-use mathlib.Core.Path.{_≡_, sym, ap, subst}
+use mathlib.Core.Path.{_≡_, ap}
 use mathlib.Core.Bool.{Bool, true, false, not}
 use mathlib.Core.List.{List, _∷_, _++_}
 use lib.Dec.{eqb}
 use lib.ListN.{length, getD}
 use borrow.Author.Tests.{eq-eqb}
-use Rattle.reading.specs.Reading.{desk, Outcome, stays, start}
+use Rattle.reading.specs.Reading.{Outcome, stays}
 use Rattle.reading.specs.Step.{isTooMany, longLine}
-use Rattle.runs.specs.Input.{Runs, runFrom}
-use Rattle.runs.proofs.InputLaws.{run-there}
 use Rattle.feeding.specs.Calls.{Calls}
 use Rattle.feeding.specs.Feeding.{byLines, start as noByte}
 use Rattle.feeding.specs.Lines.{lf, linesOf, joined}
 use Rattle.feeding.specs.Machine.{Held, held, fed}
 use Rattle.feeding.proofs.InputLaws.{many-at-once, long-at-once}
-use Rattle.feeding.proofs.RunLaws.{sound, bytes-run}
+use Rattle.feeding.proofs.RunLaws.{sound, bytes-runs}
 use Rattle.printing.specs.Output.{printedFor}
 use Rattle.printing.specs.Printed.{outputOf}
 use Rattle.printing.proofs.OutputLaws.{run-printed}
 
 module _ (st ct : List ℕ) (slices : List (List ℕ)) (d : Held Outcome) (feeds : Calls noByte st ct slices d) where
-  pub bytes-are-run : Runs (desk start st ct) (linesOf (joined slices)) (d .state)
-  bytes-are-run =
-      subst (Runs (desk start st ct) (linesOf (joined slices))) (sym (bytes-run feeds)) (run-there (linesOf (joined slices)) (desk start st ct))
-
   pub bytes-printed : outputOf (d .state .answer) (d .state .left .reading) (d .state .left .counts) ≡ printedFor st ct (joined slices)
-  bytes-printed = run-printed st ct (linesOf (joined slices)) (d .state) bytes-are-run
+  bytes-printed = run-printed st ct (linesOf (joined slices)) (d .state) (bytes-runs feeds)
 
 module _ (o : Outcome) (line : List ℕ) (goes : o .answer ≡ 0) (rest : List ℕ) where
   still : not (eqb (o .answer) 0) ≡ false

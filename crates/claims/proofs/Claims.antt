@@ -43,10 +43,10 @@ use Rattle.runs.proofs.EndingLaws.{run-listed}
 use Rattle.runs.proofs.ProgramLaws.{program-answer, program-line, program-misses, program-refs, program-skipped}
 use Rattle.feeding.specs.declared.Feeding.{Feeding}
 use Rattle.feeding.specs.Calls.{Calls as Feeds}
-use Rattle.feeding.specs.Feeding.{byLines, start as noByte}
+use Rattle.feeding.specs.Feeding.{byLines, heldBy, start as noByte}
 use Rattle.feeding.specs.Lines.{lf, linesOf, joined}
-use Rattle.feeding.specs.Machine.{Held, held, fed}
-use Rattle.feeding.proofs.RunLaws.{calls-there as feeds-there}
+use Rattle.feeding.specs.Machine.{Held, held, fed, finished}
+use Rattle.feeding.proofs.RunLaws.{bytes-runs, calls-there as feeds-there}
 use Rattle.printing.specs.Printed.{outputOf}
 use Rattle.printing.specs.Output.{printedFor}
 use Rattle.claims.proofs.ByteOutcomes as bytes
@@ -244,7 +244,7 @@ module _ (st ct : List ℕ) (lines : List (List ℕ)) (o : Outcome) (run : Runs 
 module _ (st ct : List ℕ) (slices : List (List ℕ)) (d : Held Outcome) (feeds : Feeds noByte st ct slices d) where
   -- calls within the contracts of `feed` and `ended` leave what a run over the lines of these bytes leaves, so that demands 1 and 2 hold of it
   pub demand-1-bytes : Runs (desk start st ct) (linesOf (joined slices)) (d .state)
-  demand-1-bytes = bytes.bytes-are-run st ct slices d feeds
+  demand-1-bytes = bytes-runs feeds
 
   -- and what is to be printed then is what is defined for the bytes alone (crates/printing/specs/Output.antt): the refusal and its line, or the
   -- whole table in its order, in which each number is `missesOver` of that one cache over what the lines give
@@ -252,7 +252,8 @@ module _ (st ct : List ℕ) (slices : List (List ℕ)) (d : Held Outcome) (feeds
   demand-2-bytes = bytes.bytes-printed st ct slices d feeds
 
 -- there are such calls, whatever the slices
-pub feeds-exist : (slices : List (List ℕ)) (f : Feeding) (st ct : List ℕ) → (d : Held Outcome) × Feeds f st ct slices d
+pub feeds-exist : (slices : List (List ℕ)) (f : Feeding) (st ct : List ℕ)
+    → Feeds f st ct slices (finished byLines (fed byLines (heldBy f st ct) (joined slices)))
 feeds-exist = feeds-there
 
 -- 26 comes at the first byte of the line too many, and a line too long ends the run at its 256th byte, whatever follows

@@ -52,11 +52,11 @@ module _ {S : Type 0} (r : Reader S) (s : S) (n : ℕ) (line : List ℕ) (goes :
 
     pub byte-long : eqb b lf ≡ false → longest ≤ n → feedByte r (held s n line) b ≡ lineRefused r (held s n line)
     unfolding feedByte
-    byte-long e h = simp (goes, few, e, le-leb longest n h)
+    byte-long e h = simp (goes, few, e, le-leb longest n h) refl
 
     pub byte-kept : eqb b lf ≡ false → n < longest → feedByte r (held s n line) b ≡ held s (n + 1) (set line n b)
     unfolding feedByte
-    byte-kept e h = simp (goes, few, e, lt-leb longest n h)
+    byte-kept e h = simp (goes, few, e, lt-leb longest n h) refl
 
 -- ---- bytes that belong to one line
 

@@ -131,7 +131,7 @@ module _ {S : Type 0} (r : Reader S) (sound : Sound r) where
   pub fed-slices : (d : Held S) (a b : List ℕ) → fed r d (a ++ b) ≡ fed r (fed r d a) b
   fed-slices d a b = after-append (feedByte r) d a b
 
-  -- ---- a refusal that does not wait
+  -- ---- a refusal that does not wait, from any line's first byte on, whatever bytes came before
 
   -- a line too many is refused at its first byte
   pub many-at-once : (s : S) (line : List ℕ) → r .isOver s ≡ false → r .isMany s ≡ true → (b : ℕ) (rest : List ℕ)

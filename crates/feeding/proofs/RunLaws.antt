@@ -14,7 +14,8 @@ use Rattle.reading.specs.declared.Step.{Step}
 use Rattle.reading.specs.Reading.{Desk, desk, Outcome, outcome, stays, start as noLine}
 use Rattle.reading.specs.Step.{isTooMany, inTrace, stepOf, longLine, ended as noMore}
 use Rattle.reading.proofs.StepLaws.{long-line-is-step}
-use Rattle.runs.specs.Input.{runFrom}
+use Rattle.runs.specs.Input.{Runs, runFrom}
+use Rattle.runs.proofs.InputLaws.{run-there}
 use Rattle.feeding.specs.declared.Feeding.{Feeding}
 use Rattle.feeding.specs.Lines.{lf, linesOf, joined}
 use Rattle.feeding.specs.Machine.{Held, held, feedByte, fed, inputEnds, finished, runOver}
@@ -76,35 +77,50 @@ pub bytes-run : {st ct : List ℕ} {slices : List (List ℕ)} {d : Held Outcome}
     → d .state ≡ runFrom (desk noLine st ct) (linesOf (joined slices))
 bytes-run {st} {ct} {slices} c = ap (λ (d : Held Outcome). d .state) (calls-are c) ∙ finished-run st ct (joined slices)
 
--- ---- there are such calls, whatever the slices
+-- they are a run over these lines, so what is said of such runs is said of the bytes
+pub bytes-runs : {st ct : List ℕ} {slices : List (List ℕ)} {d : Held Outcome} → Calls start st ct slices d
+    → Runs (desk noLine st ct) (linesOf (joined slices)) (d .state)
+bytes-runs {st} {ct} {slices} c =
+    subst (Runs (desk noLine st ct) (linesOf (joined slices))) (sym (bytes-run c)) (run-there (linesOf (joined slices)) (desk noLine st ct))
 
-abbrev feedingOf : Held Outcome → Feeding
-feedingOf d = record { reading = d .state .left .reading; answer = d .state .answer; len = d .len; line = d .line }
+-- and there are such calls, whatever the slices
+abbrev There : Feeding → List ℕ → List ℕ → List (List ℕ) → Type 0
+There f st ct slices = Calls f st ct slices (finished byLines (fed byLines (heldBy f st ct) (joined slices)))
 
--- what the end of the input leaves
-abbrev endsAs : Feeding → Feeding
-endsAs f =
-    cond (eqb (f .answer) 0)
-    (record { reading = noMore (f .reading) .next; answer = noMore (f .reading) .answer; len = f .len; line = f .line })
-    f
+-- the state that is held, as a struct
+abbrev stateOf : Held Outcome → Feeding
+stateOf d = record { reading = d .state .left .reading; answer = d .state .answer; len = d .len; line = d .line }
 
-ends-there : (f : Feeding) → Ends f (endsAs f)
-ends-there f st ct = by (eqb (f .answer) 0)
-  where
-    by : (t : Bool)
-        → heldBy (cond t (record { reading = noMore (f .reading) .next; answer = noMore (f .reading) .answer; len = f .len; line = f .line }) f) st ct
-        ≡ held (cond (not t) (outcome (f .answer) (desk (f .reading) st ct)) (stays (noMore (f .reading)) (desk (f .reading) st ct))) (f .len) (f .line)
-    by true = refl
-    by false = refl
+-- the end of the input, of that state
+abbrev afterEnd : Feeding → Feeding
+afterEnd f = let s = noMore (f .reading) in record { reading = s .next; answer = s .answer; len = f .len; line = f .line }
 
-pub calls-there : (slices : List (List ℕ)) (f : Feeding) (st ct : List ℕ) → (d : Held Outcome) × Calls f st ct slices d
+abbrev endOf : Feeding → Feeding
+endOf f = cond (eqb (f .answer) 0) (afterEnd f) f
+
+end-is : (f : Feeding) → Ends f (endOf f)
+end-is f st ct =
+    let d = heldBy f st ct in
+    let ours : Bool → Held Outcome = λ (t : Bool). heldBy (cond t (afterEnd f) f) st ct in
+    let theirs : Bool → Held Outcome = λ (t : Bool). held (cond (not t) (d .state) (byLines .ended (d .state))) (d .len) (d .line) in
+    cases (eqb (f .answer) 0) (λ e. ap ours e ∙ sym (ap theirs e)) (λ e. ap ours e ∙ sym (ap theirs e))
+
+pub calls-there : (slices : List (List ℕ)) (f : Feeding) (st ct : List ℕ) → There f st ct slices
+unfolding joined
 calls-there [] f st ct =
-    let g = feedingOf (feedByte byLines (heldBy f st ct) lf) in
-    let after = feedByte byLines (heldBy f st ct) lf .state .left in
     cases (eqb (f .len) 0)
-    (λ e. (heldBy (endsAs f) st ct, ended (eqb-true (f .len) 0 e) (ends-there f)))
-    (λ e. (heldBy (endsAs g) (after .stacks) (after .counts), last (eqb-false (f .len) 0 e) refl (ends-there g)))
+    (λ e.
+    let none = eqb-true (f .len) 0 e in
+    let c : Calls f st ct [] (heldBy (endOf f) st ct) = ended none (end-is f) in
+    subst (Calls f st ct []) (calls-are c) c)
+    (λ e.
+    let some = eqb-false (f .len) 0 e in
+    let d = fed byLines (heldBy f st ct) (lf ∷ []) in
+    let c : Calls f st ct [] (heldBy (endOf (stateOf d)) (d .state .left .stacks) (d .state .left .counts)) =
+    last {g = stateOf d} some refl (end-is (stateOf d)) in
+    subst (Calls f st ct []) (calls-are c) c)
 calls-there (bytes ∷ more) f st ct =
     let d = fed byLines (heldBy f st ct) bytes in
-    let rest = calls-there more (feedingOf d) (d .state .left .stacks) (d .state .left .counts) in
-    (rest .0, feed refl (rest .1))
+    let rest = calls-there more (stateOf d) (d .state .left .stacks) (d .state .left .counts) in
+    let c : Calls f st ct (bytes ∷ more) _ = feed {r = stateOf d} refl rest in
+    subst (Calls f st ct (bytes ∷ more)) (calls-are c) c

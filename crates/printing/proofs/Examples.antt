@@ -2,7 +2,7 @@
 use mathlib.Core.Path.{_≡_, refl}
 use mathlib.Core.List.{[], _∷_}
 use Rattle.lines.specs.Bytes.{text}
-use Rattle.printing.specs.Printed.{placesFrom, fieldsAfter, headLines, cacheLine, refusalLine, decimalOf}
+use Rattle.printing.specs.Printed.{placesFrom, digitsOf, fieldsAfter, headLines, cacheLine, refusalLine, decimalOf}
 
 pub printed-examples : headLines 8 0 ∷ cacheLine 4 1 2 5 ∷ cacheLine 12 14 16 4000000000 ∷ refusalLine 26 4294967296 ∷ decimalOf 0 ∷ []
     ≡ text "edition=1\nrefs=8\nskipped=0\n"
@@ -11,5 +11,5 @@ pub printed-examples : headLines 8 0 ∷ cacheLine 4 1 2 5 ∷ cacheLine 12 14 1
     ∷ text "refused=26 line=4294967296\n"
     ∷ text "0"
     ∷ []
-unfolding placesFrom fieldsAfter
+unfolding placesFrom digitsOf fieldsAfter
 printed-examples = refl

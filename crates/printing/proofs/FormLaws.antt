@@ -8,6 +8,7 @@ use lib.Dec.{leb}
 use lib.ListN.{length}
 use lib.Seq.{length-take-le}
 use borrow.Author.Tests.{le-leb, lt-leb}
+use Rattle.lists.proofs.Cases.{picked}
 use Rattle.lines.specs.Bytes.{text}
 use Rattle.printing.specs.Printed.{decimalOf, fieldsAfter, cacheLine, refusalLine, headLines}
 use Rattle.printing.specs.Forms.{filled, most, Puts, lineMost, Prints}
@@ -62,6 +63,14 @@ module _ (out : List ℕ) where
         puts = subst (λ (l : List ℕ). Puts l 0 out 0 out) (sym short) (record { end = refl; written = refl });
         counts = (omega arith, refl);
       }
+
+  pub prints-nothing : Prints [] out 0 out
+  prints-nothing = record {
+    puts = picked (λ (l : List ℕ). Puts l 0 out 0 out) (leb lineMost (length out))
+        (λ t. record { end = refl; written = refl })
+        (λ t. record { end = refl; written = refl });
+    counts = (omega arith, refl);
+  }
 
   -- a form, filled in from the start of the buffer on
   pub prints-form : lineMost ≤ length out → (form numbers bytes : List ℕ) → filled form numbers ≡ bytes → most form ≤ lineMost

@@ -1,16 +1,16 @@
 -- The decimal digits of a number: their least number is one. Assumes nothing.
 use Prim.Native.Nat.{ℕ, zero, suc, _+_, _-_, _/_, _%_, _^_, _≤_, _<_}
-use mathlib.Core.Path.{_≡_, refl, sym, ap, _∙_}
+use mathlib.Core.Path.{_≡_, refl, sym, ap, ap₂, _∙_}
 use mathlib.Core.Bool.{Bool, true, false, cond}
 use mathlib.Core.List.{List, [], _∷_, _++_}
 use native.Mathlib.Omega.{arith}
 use lib.Dec.{ltb}
 use lib.ListN.{length, length-append}
-use native.Mathlib.Nat.{pow-le-pow-right, zero-lt-suc}
-use borrow.Author.Tests.{ltb-true, ltb-false}
+use native.Mathlib.Nat.{pow-le-pow-right, zero-lt-suc, mod-lt}
+use borrow.Author.Tests.{ltb-true, ltb-false, lt-ltb}
 use Rattle.lists.proofs.Cases.{cases}
 use Rattle.io.specs.Digits.{digits, glyph, Fewest}
-use Rattle.printing.specs.Printed.{placesFrom, decimalOf}
+use Rattle.printing.specs.Printed.{placesFrom, digitsOf, decimalOf}
 
 fewest-from : (more j n k : ℕ) → Fewest 10 1 n k → 1 ≤ j → j ≤ k → k ≤ j + more → placesFrom more j n ≡ k
 unfolding placesFrom
@@ -49,8 +49,16 @@ few-places n k f small =
     (λ t. ltb-false 20 k t)
 
 -- what `io::decimal` puts is the decimal of the number
+digits-are : (k n : ℕ) → digits 10 k n ≡ digitsOf k n
+unfolding digitsOf
+digits-are zero n = refl
+digits-are (suc k) n =
+    let small = lt-ltb (n % 10) 10 (mod-lt n (zero-lt-suc 9)) in
+    let last : glyph (n % 10) ≡ 48 + n % 10 = simp small in
+    ap₂ (λ (l : List ℕ) (d : ℕ). l ++ (d ∷ [])) (digits-are k (n / 10)) last
+
 pub decimal-is : (n k : ℕ) → Fewest 10 1 n k → k ≤ 20 → digits 10 k n ≡ decimalOf n
-decimal-is n k f h = ap (λ (x : ℕ). digits 10 x n) (sym (fewest-from 19 1 n k f (omega arith) (f .0) (omega arith)))
+decimal-is n k f h = digits-are k n ∙ ap (λ (x : ℕ). digitsOf x n) (sym (fewest-from 19 1 n k f (omega arith) (f .0) (omega arith)))
 
 pub length-digits : (k n : ℕ) → length (digits 10 k n) ≡ k
 length-digits zero n = refl
@@ -64,4 +72,6 @@ places-le (suc more) j n =
     cases (ltb n (10 ^ j)) (λ e. simp e (omega arith)) (λ e. simp e (omega arith))
 
 pub length-decimal : (n : ℕ) → length (decimalOf n) ≤ 20
-length-decimal n = omega (arith, length-digits (placesFrom 19 1 n) n, places-le 19 1 n)
+length-decimal n =
+    let k = placesFrom 19 1 n in
+    omega (arith, sym (ap length (digits-are k n)) ∙ length-digits k n, places-le 19 1 n)

@@ -66,7 +66,8 @@ module _ (st ct : List ℕ) (lines : List (List ℕ)) (o : Outcome) (run : Runs 
       let there : has (orderIn (headerOf lines)) b s w ≡ true =
       subst (λ (x : Order). has x b s w ≡ true) (program-order st ct lines o run done) (all-yes (asked r b s w) h) in
       let q = missesOf (o .left .reading .opened) (o .left .counts) b s w in
-      ap (cacheLine b s w) (program-misses st ct lines o run done b s w there q refl .1)
+      let told = program-misses st ct lines o run done b s w there q refl in
+      ap (λ (t : Bool). cond t (cacheLine b s w (q .misses)) []) (eq-eqb (q .answer) 0 (told .0)) ∙ ap (cacheLine b s w) (told .1)
 
   grid-printed : linesBy ours (gridOf r) ≡ linesBy (lineOver (givenOf lines)) (gridOf r)
   grid-printed =

@@ -1,11 +1,11 @@
 -- What the program prints, as bytes (SCOPE, "Program, order lines and din lines"). Assumes nothing.
-use Prim.Native.Nat.{ℕ, zero, suc, _+_, _^_}
+use Prim.Native.Nat.{ℕ, zero, suc, _+_, _/_, _%_, _^_}
 use Prim.Native.Char.{code}
 use mathlib.Core.Bool.{cond}
 use mathlib.Core.List.{List, [], _∷_, _++_}
 use lib.Dec.{eqb, ltb}
-use Rattle.io.specs.Digits.{digits}
 use Rattle.lines.specs.Bytes.{text}
+use Rattle.taking.specs.declared.Counted.{Counted}
 use Rattle.taking.specs.declared.Opened.{Opened}
 use Rattle.taking.specs.Questions.{missesOf}
 use Rattle.reading.specs.declared.Reading.{Reading}
@@ -19,9 +19,14 @@ unfoldable pub placesFrom : ℕ → ℕ → ℕ → ℕ
 placesFrom zero k n = k
 placesFrom (suc more) k n = cond (ltb n (10 ^ k)) k (placesFrom more (suc k) n)
 
+-- the last k decimal digits of n, the most significant first
+unfoldable pub digitsOf : ℕ → ℕ → List ℕ
+digitsOf zero n = []
+digitsOf (suc k) n = digitsOf k (n / 10) ++ ((code "0" + n % 10) ∷ [])
+
 -- in decimal without leading zeros: 1 to 20 digits, as a number of 64 bits has
 abbrev pub decimalOf : ℕ → List ℕ
-decimalOf n = digits 10 (placesFrom 19 1 n) n
+decimalOf n = digitsOf (placesFrom 19 1 n) n
 
 -- ---- a line: fields NAME=NUMBER with a space between, and LF
 
@@ -49,10 +54,14 @@ cacheLine b s w misses = lineOf (text "b", b) ((text "s", s) ∷ (text "w", w) �
 abbrev pub refusalLine : ℕ → ℕ → List ℕ
 refusalLine answer line = lineOf (text "refused", answer) ((text "line", line) ∷ [])
 
--- the line of one cache, and the lines of these one after the other
-abbrev pub lineAt : Opened → List ℕ → Walk → List ℕ
-lineAt v ct c = cacheLine (c .b) (c .s) (c .w) (missesOf v ct (c .b) (c .s) (c .w) .misses)
+-- the line of one cache, by what the question gives: nothing is invented beside a refusal
+abbrev pub lineBy : Walk → Counted → List ℕ
+lineBy c q = cond (eqb (q .answer) 0) (cacheLine (c .b) (c .s) (c .w) (q .misses)) []
 
+abbrev pub lineAt : Opened → List ℕ → Walk → List ℕ
+lineAt v ct c = lineBy c (missesOf v ct (c .b) (c .s) (c .w))
+
+-- the lines of caches, one after the other
 unfoldable pub linesBy : (Walk → List ℕ) → List Walk → List ℕ
 linesBy line [] = []
 linesBy line (c ∷ more) = line c ++ linesBy line more

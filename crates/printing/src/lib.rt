@@ -85,7 +85,7 @@ pub fn head_lines(refs: u32, skipped: u32, out: &mut [u8]) -> usize
     fill(out, 0, b"edition=#\nrefs=#\nskipped=#\n", &numbers)
 }
 
-// The line of one cache.
+// The line of one cache; nothing where the question is refused.
 pub fn cache_line(at: Walk, opened: Opened, counts: &[u32], out: &mut [u8]) -> usize
     ensures { λ r. ⌜ Prints (lineAt opened (now (counts .entry)) at) (now (out .entry)) r (now (out .exit)) ⌝ }
 {
@@ -96,6 +96,9 @@ pub fn cache_line(at: Walk, opened: Opened, counts: &[u32], out: &mut [u8]) -> u
     let s = at.s;
     let w = at.w;
     let counted = opened.misses(counts, ByteExp(b), s, w);
+    if counted.answer != 0 {
+        return 0;
+    }
     let misses = counted.misses;
     let numbers = [b as u64, s as u64, w as u64, misses as u64];
     fill(out, 0, b"b=# s=# w=# misses=#\n", &numbers)

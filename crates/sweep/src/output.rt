@@ -7,7 +7,7 @@ use printing::head_lines;
 use printing::refusal_line;
 use reading::Reading;
 
-// The head, then the line of each cache. That no question is refused here, `demand-2-program` says.
+// The head, then the line of each cache. A question that is refused would put no line; none is, as `demand-2-program` says.
 pub(crate) fn table(reading: Reading, counts: &[u32]) -> bool {
     let mut out = [0u8; LINE_MOST];
     let opened = reading.opened;

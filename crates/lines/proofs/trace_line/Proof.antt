@@ -104,20 +104,6 @@ returns-9 c =
 pub trace-line-spec : {M : Type 1} → statement M
 trace-line-spec =
     tie.close
-    (tie.spec
-    returns
-    returns-2
-    (λ c. search needs)
-    returns-3
-    returns-4
-    (λ c κs. search needs)
-    returns-5
-    returns-6
-    hex-digits-requires
-    (λ c κs. search needs)
-    returns-7
-    (λ c. search needs)
-    (λ c κs. search needs)
-    (λ c κs. search needs)
-    returns-8
-    returns-9)
+    (tie.spec returns returns-2 (λ c. search needs) returns-3 returns-4 (λ c κs. search needs) returns-5 returns-6
+    hex-digits-requires (λ c κs. search needs) returns-7 (λ c. search needs) (λ c κs. search needs)
+    (λ c κs. search needs) returns-8 returns-9)

@@ -61,21 +61,6 @@ returns c =
 pub fill-spec : {M : Type 1} → statement M
 fill-spec =
     tie.close
-    (tie.spec
-    Inv-loop
-    μ-loop
-    loop-holds
-    (λ c. search needs)
-    (λ c κs. search needs)
-    put-number-requires
-    (λ c. search needs)
-    (λ c. search needs)
-    (λ c. search needs)
-    loop-again
-    slice-write-out
-    (λ c. search needs)
-    (λ c. search needs)
-    (λ c. search needs)
-    loop-again-2
-    (λ c. search needs)
-    returns)
+    (tie.spec Inv-loop μ-loop loop-holds (λ c. search needs) (λ c κs. search needs) put-number-requires
+    (λ c. search needs) (λ c. search needs) (λ c. search needs) loop-again slice-write-out (λ c. search needs)
+    (λ c. search needs) (λ c. search needs) loop-again-2 (λ c. search needs) returns)

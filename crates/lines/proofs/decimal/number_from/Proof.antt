@@ -139,25 +139,6 @@ returns-8 c = sym (whole (c .before) ∙ ap Value (omega arith))
 pub number-from-spec : {M : Type 1} → statement M
 number-from-spec =
     tie.close
-    (tie.spec
-    Inv-loop
-    μ-loop
-    (λ c. search needs)
-    returns
-    returns-2
-    (λ c. search needs)
-    returns-3
-    returns-4
-    loop-holds
-    (λ c. search needs)
-    returns-5
-    returns-6
-    mul-value
-    cast-value
-    add-value
-    (λ c. search needs)
-    (λ c. search needs)
-    loop-again
-    returns-7
-    (λ c. search needs)
-    returns-8)
+    (tie.spec Inv-loop μ-loop (λ c. search needs) returns returns-2 (λ c. search needs) returns-3 returns-4 loop-holds
+    (λ c. search needs) returns-5 returns-6 mul-value cast-value add-value (λ c. search needs) (λ c. search needs)
+    loop-again returns-7 (λ c. search needs) returns-8)

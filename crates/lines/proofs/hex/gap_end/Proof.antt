@@ -38,14 +38,5 @@ returns-2 c = let l = c .before .loop in sym (l .inv .1 ∙ blanks-end _ (l .i) 
 pub gap-end-spec : {M : Type 1} → statement M
 gap-end-spec =
     tie.close
-    (tie.spec
-    Inv-loop
-    μ-loop
-    loop-holds
-    (λ c. search needs)
-    (λ c κs. search needs)
-    returns
-    (λ c. search needs)
-    (λ c. search needs)
-    loop-again
-    returns-2)
+    (tie.spec Inv-loop μ-loop loop-holds (λ c. search needs) (λ c κs. search needs) returns (λ c. search needs)
+    (λ c. search needs) loop-again returns-2)

@@ -89,17 +89,5 @@ returns-2 c =
 pub hex-digits-spec : {M : Type 1} → statement M
 hex-digits-spec =
     tie.close
-    (tie.spec
-    Inv-loop
-    μ-loop
-    (λ c κs. search needs)
-    loop-holds
-    (λ c. search needs)
-    (λ c κs. search needs)
-    returns
-    mul-value
-    add-value
-    (λ c. search needs)
-    (λ c. search needs)
-    loop-again
-    returns-2)
+    (tie.spec Inv-loop μ-loop (λ c κs. search needs) loop-holds (λ c. search needs) (λ c κs. search needs) returns
+    mul-value add-value (λ c. search needs) (λ c. search needs) loop-again returns-2)

@@ -36,14 +36,5 @@ returns-5 c = let past = c .before in simp (no-decimal (past .before), no-lower 
 pub hex-value-spec : {M : Type 1} → statement M
 hex-value-spec =
     tie.close
-    (tie.spec
-    (λ c. search needs)
-    returns
-    (λ c. search needs)
-    (λ c. search needs)
-    returns-2
-    (λ c. search needs)
-    (λ c. search needs)
-    returns-3
-    returns-4
-    returns-5)
+    (tie.spec (λ c. search needs) returns (λ c. search needs) (λ c. search needs) returns-2 (λ c. search needs)
+    (λ c. search needs) returns-3 returns-4 returns-5)

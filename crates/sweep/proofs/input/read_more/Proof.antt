@@ -45,15 +45,5 @@ returns-4 c =
 pub read-more-spec : {M : Type 1} → statement M
 read-more-spec =
     tie.close
-    (tie.spec
-    (λ c κs. search needs)
-    (λ c. search needs)
-    returns
-    (λ c κs. search needs)
-    (λ c. search needs)
-    returns-2
-    (λ c. search needs)
-    returns-3
-    (λ c. search needs)
-    (λ c. search needs)
-    returns-4)
+    (tie.spec (λ c κs. search needs) (λ c. search needs) returns (λ c κs. search needs) (λ c. search needs) returns-2
+    (λ c. search needs) returns-3 (λ c. search needs) (λ c. search needs) returns-4)

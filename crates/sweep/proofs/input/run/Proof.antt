@@ -155,27 +155,7 @@ loop-again c =
 pub run-spec : {M : Type 1} → statement M
 run-spec =
     tie.close
-    (tie.spec
-    Inv-loop
-    μ-loop
-    (λ c κs. search needs)
-    loop-holds
-    read-more-requires
-    (λ c. search needs)
-    (λ c. search needs)
-    (λ c. search needs)
-    returns
-    slice-reshare-prefix-feed
-    slice-aggregate-feed
-    (λ c κs. search needs)
-    (λ c κs. search needs)
-    same-length-4
-    same-length-5
-    same-length-6
-    returns-2
-    same-length-7
-    same-length-8
-    same-length-9
-    returns-3
-    loop-less
-    loop-again)
+    (tie.spec Inv-loop μ-loop (λ c κs. search needs) loop-holds read-more-requires (λ c. search needs)
+    (λ c. search needs) (λ c. search needs) returns slice-reshare-prefix-feed slice-aggregate-feed
+    (λ c κs. search needs) (λ c κs. search needs) same-length-4 same-length-5 same-length-6 returns-2 same-length-7
+    same-length-8 same-length-9 returns-3 loop-less loop-again)
