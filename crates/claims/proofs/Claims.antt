@@ -33,13 +33,14 @@ use Rattle.calls.proofs.CallLaws.{call-refused, calls-there}
 use Rattle.strip.specs.declared.Stripped.{Stripped}
 use Rattle.strip.specs.Strip.{keptOf, stripLimits, Strips}
 use Rattle.strip.proofs.StripClaims.{strip-refused, strip-short, strip-untouched, left-is-kept, kept-as-before, dropped-hit, misses-same}
-use Rattle.reading.specs.Reading.{desk, Outcome, stays, start}
-use Rattle.reading.specs.Step.{isTooMany, longLine}
+use Rattle.reading.specs.Reading.{Desk, desk, withReading, withLines, Outcome, stays, start}
+use Rattle.reading.specs.Step.{isTooMany, longLine, Steps}
 use Rattle.reading.specs.Tables.{Allotted}
 use Rattle.reading.proofs.TableLaws.{opening-in-program}
 use Rattle.runs.specs.Input.{Runs, headerOf, traceOf, orderIn, givenOf}
 use Rattle.runs.specs.Endings.{inputEnding}
 use Rattle.runs.proofs.EndingLaws.{run-listed}
+use Rattle.runs.proofs.NumberLaws.{refused-line}
 use Rattle.runs.proofs.ProgramLaws.{program-answer, program-line, program-misses, program-refs, program-skipped}
 use Rattle.feeding.specs.declared.Feeding.{Feeding}
 use Rattle.feeding.specs.Calls.{Calls as Feeds}
@@ -47,8 +48,10 @@ use Rattle.feeding.specs.Feeding.{byLines, heldBy, start as noByte}
 use Rattle.feeding.specs.Lines.{lf, linesOf, joined}
 use Rattle.feeding.specs.Machine.{Held, held, fed, finished}
 use Rattle.feeding.proofs.RunLaws.{bytes-runs, calls-there as feeds-there}
+use Rattle.printing.specs.Grid.{gridOf, firstCache, Walks}
 use Rattle.printing.specs.Printed.{outputOf}
 use Rattle.printing.specs.Output.{printedFor}
+use Rattle.printing.proofs.WalkLaws.{walk-is-grid}
 use Rattle.claims.proofs.ByteOutcomes as bytes
 use Rattle.claims.proofs.CallOutcomes as outcomes
 
@@ -146,6 +149,13 @@ module _ (l : List ℕ) (b s : ℕ) (filter out : List ℕ) (r : Stripped) (filt
 
   pub demand-1-strip-untouched : (r .answer ≡ 0 → ⊥) → (r .answer ≡ 13 → ⊥) → filter′ ≡ filter
   demand-1-strip-untouched = strip-untouched strip
+
+-- ---- one line of the program's input, in any state and over any tables
+
+-- refused: nothing changes but the number of the line
+pub demand-1-line-refused : (d : Desk) (line : List ℕ) (n : ℕ) (d′ : Desk) → Steps d line n d′ → (n ≡ 0 → ⊥)
+    → d′ ≡ withReading (withLines (d′ .reading .lines) (d .reading)) d
+demand-1-line-refused = refused-line
 
 -- ---- the program, over every list of lines and any tables lent
 
@@ -255,6 +265,10 @@ module _ (st ct : List ℕ) (slices : List (List ℕ)) (d : Held Outcome) (feeds
 pub feeds-exist : (slices : List (List ℕ)) (f : Feeding) (st ct : List ℕ)
     → Feeds f st ct slices (finished byLines (fed byLines (heldBy f st ct) (joined slices)))
 feeds-exist = feeds-there
+
+-- the walk of the printed table goes over the caches of the order, each once: b, then s, then w upward
+pub table-in-order : (o : Order) → within o ≡ true → Walks o (firstCache o) (gridOf o)
+table-in-order = walk-is-grid
 
 -- 26 comes at the first byte of the line too many, and a line too long ends the run at its 256th byte, whatever follows
 module _ (o : Outcome) (line : List ℕ) (goes : o .answer ≡ 0) (rest : List ℕ) where

@@ -1,6 +1,6 @@
 -- Both ways of a test, each with the equation that says which. Assumes nothing.
 use mathlib.Core.Path.{_≡_, refl}
-use mathlib.Core.Bool.{Bool, true, false, cond, _||_}
+use mathlib.Core.Bool.{Bool, true, false, cond}
 
 pub cases {ℓ} : {G : Type ℓ} (b : Bool) → (b ≡ true → G) → (b ≡ false → G) → G
 cases true f g = f refl
@@ -16,10 +16,3 @@ pub both-picked : {A B : Type 0} (P : A → B → Type 0) (b : Bool) {x y : A} {
     → P (cond b x y) (cond b z w)
 both-picked P true f g = f refl
 both-picked P false f g = g refl
-
--- of two tests after one another, and of either
-pub either-picked : {A B : Type 0} (P : A → B → Type 0) (a b : Bool) {x y : A} {z w : B} → (a ≡ true → P x z) → (b ≡ true → P x z) → P y w
-    → P (cond (a || b) x y) (cond a z (cond b z w))
-either-picked P true b f g p = f refl
-either-picked P false true f g p = g refl
-either-picked P false false f g p = p

@@ -19,14 +19,6 @@ sets-append out at [] b = ap (λ (k : ℕ). sets out k b) (omega arith)
 sets-append out at (x ∷ a) b =
     sets-append (set out at x) (suc at) a b ∙ ap (λ (k : ℕ). sets (sets (set out at x) (suc at) a) k b) (omega arith)
 
--- two texts, put one after the other
-pub puts-both : (a b : List ℕ) (at : ℕ) (out : List ℕ) (r : ℕ) (out′ : List ℕ) (r′ : ℕ) (out″ : List ℕ)
-    → Puts a at out r out′ → Puts b r out′ r′ out″ → Puts (a ++ b) at out r′ out″
-puts-both a b at out r out′ r′ out″ p q = record {
-  end = let x = p .end in let y = q .end in omega (arith, length-append a b);
-  written = q .written ∙ ap₂ (λ (o : List ℕ) (k : ℕ). sets o k b) (p .written) (p .end) ∙ sym (sets-append out at a b);
-}
-
 pub length-puts : (a : List ℕ) (at : ℕ) (out : List ℕ) (r : ℕ) (out′ : List ℕ) → Puts a at out r out′ → length out′ ≡ length out
 length-puts a at out r out′ p = ap length (p .written) ∙ length-sets out at a
 
