@@ -2,17 +2,14 @@
 -- Assumes nothing.
 use Prim.Native.Nat.{ℕ, zero, suc, _+_, _≤_, _<_}
 use mathlib.Core.Path.{_≡_, refl, sym, ap, _∙_, subst}
-use mathlib.Core.Bool.{Bool, true, false, cond, _||_, true≢false, false≢true, or-true}
+use mathlib.Core.Bool.{false≢true}
 use mathlib.Core.List.{List, [], _∷_, map}
 use native.Mathlib.Omega.{arith}
-use lib.Dec.{eqb}
 use lib.ListN.{length}
 use lib.Pow.{shr-shr}
-use borrow.Author.Tests.{eqb-true, eq-eqb}
 use Rattle.lists.specs.Members.{mem, remove}
 use Rattle.lists.specs.Runs.{after}
-use Rattle.lists.proofs.Cases.{cases}
-use Rattle.lists.proofs.MemberLaws.{mem-front, length-front}
+use Rattle.lists.proofs.CoverLaws.{Covers, covers-step}
 use Rattle.lists.proofs.RunLaws.{after-append}
 use Rattle.cache.specs.Cache.{blockOf, Event, touch, Given, ref, eventsAt, eventsOf}
 use Rattle.cache.specs.Stack.{stackStep}
@@ -21,27 +18,6 @@ use Rattle.cache.specs.Stack.{stackStep}
 pub block-wider : (b k a : ℕ) → blockOf (b + k) a ≡ blockOf k (blockOf b a)
 unfolding blockOf
 block-wider b k a = sym (shr-shr a b k)
-
--- f takes the blocks of one stack to all blocks of the other, which is no longer
-abbrev Covers : (ℕ → ℕ) → List ℕ → List ℕ → Type 0
-Covers f st st′ = ((y : ℕ) → mem y st ≡ true → mem (f y) st′ ≡ true) × (length st′ ≤ length st)
-
-covers-step : (f : ℕ → ℕ) (x : ℕ) (st st′ : List ℕ) → Covers f st st′ → Covers f (x ∷ remove x st) (f x ∷ remove (f x) st′)
-covers-step f x st st′ (m, n) = (held, long)
-  where
-    held : (y : ℕ) → mem y (x ∷ remove x st) ≡ true → mem (f y) (f x ∷ remove (f x) st′) ≡ true
-    held y h =
-        mem-front (f x) (f y) st′
-        ∙ cases (eqb y x)
-        (λ e. let q = eqb-true y x e in simp (eq-eqb (f y) (f x) (ap f q)))
-        (λ e. simp (m y (simp e at (sym (mem-front x y st) ∙ h)), or-true))
-
-    long : length (f x ∷ remove (f x) st′) ≤ length (x ∷ remove x st)
-    long =
-        rw (length-front (f x) st′, length-front x st)
-        (cases (mem x st)
-        (λ e. simp (e, m x e) n)
-        (λ e. simp e (cases (mem (f x) st′) (λ g. simp g (omega arith)) (λ g. simp g (omega arith)))))
 
 -- what is given to both stacks, the one of blocks of 2^b bytes and the one of blocks 2^k times as large
 module _ (b k : ℕ) where

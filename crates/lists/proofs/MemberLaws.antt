@@ -46,6 +46,11 @@ take-remove x w [] e = refl
 take-remove x zero (y ∷ ys) e = refl
 take-remove x (suc w) (y ∷ ys) e = cases (eqb x y) (λ f. absurd (true≢false (rw f at e))) (λ f. simp (f, take-remove x w ys (rw f at e)))
 
+pub absent-remove : (x : ℕ) (l : List ℕ) → mem x l ≡ false → remove x l ≡ l
+absent-remove x [] h = refl
+absent-remove x (y ∷ l) h =
+    cases (eqb x y) (λ e. absurd (true≢false (simp e at h))) (λ e. simp e (ap (λ (t : List ℕ). y ∷ t) (absent-remove x l (simp e at h))))
+
 -- ---- those that pass a test
 
 pub keep-remove : (p : ℕ → Bool) (x : ℕ) → p x ≡ true → (l : List ℕ) → keep p (remove x l) ≡ remove x (keep p l)

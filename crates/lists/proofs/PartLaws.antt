@@ -2,7 +2,7 @@
 -- what stays. Not here: one list written over a table (WriteLaws). Assumes nothing.
 use Prim.Native.Nat.{ℕ, zero, suc, _+_, _-_, _*_, _≤_, _<_}
 use mathlib.Core.Path.{_≡_, refl, sym, ap, _∙_}
-use mathlib.Core.List.{List, [], _∷_, _++_}
+use mathlib.Core.List.{List, [], _∷_, _++_, append-nil}
 use native.Mathlib.Nat.{suc-mul, mul-le-mul-right}
 use native.Mathlib.Numerals.{add-one}
 use native.Mathlib.Omega.{arith}
@@ -41,6 +41,10 @@ write-same base n l h =
 
 pub length-padded : (n : ℕ) (l : List ℕ) → length (padded n l) ≡ length l + (n - length l)
 length-padded n l = length-append l (replicate (n - length l) 0) ∙ ap (λ (k : ℕ). length l + k) (length-replicate {A = ℕ} (n - length l) 0)
+
+-- a list that is long enough gets no zeros
+pub padded-none : (n : ℕ) (l : List ℕ) → n ≤ length l → padded n l ≡ l
+padded-none n l h = let z : n - length l ≡ 0 = omega arith in ap (λ (m : ℕ). l ++ replicate m 0) z ∙ append-nil l
 
 -- ---- entries read one by one: n of them, from place i on
 

@@ -2,13 +2,13 @@
 -- Assumes nothing.
 use Prim.Native.Nat.{ℕ, zero, suc, _+_, _≤_, _<_}
 use mathlib.Core.Path.{_≡_, refl, sym, ap, _∙_, subst}
-use mathlib.Core.Bool.{Bool, true, false, cond, true≢false, false≢true, or-true}
-use mathlib.Core.List.{List, [], _∷_}
+use mathlib.Core.Bool.{Bool, true, false, cond, true≢false, false≢true, or-true, not, _&&_}
+use mathlib.Core.List.{List, [], _∷_, _++_}
 use native.Mathlib.Numerals.{add-one}
 use native.Mathlib.Omega.{arith}
 use lib.Dec.{leb, eqb}
 use borrow.Author.Tests.{le-leb, leb-true, eq-eqb, ne-eqb, eqb-true, eqb-false}
-use Rattle.lists.specs.Tests.{settled, anyTo, allLe, All≤}
+use Rattle.lists.specs.Tests.{firstOf, settled, anyTo, allLe, All≤}
 use Rattle.lists.proofs.Cases.{cases}
 
 -- ---- the first that holds
@@ -17,6 +17,20 @@ use Rattle.lists.proofs.Cases.{cases}
 pub none-first : (t : Bool) (n m : ℕ) → cond t (suc n) m ≡ 0 → (t ≡ false) × (m ≡ 0)
 none-first true n m e = absurd (omega arith)
 none-first false n m e = (refl, e)
+
+-- each number is that of a refusal, so not 0
+unfoldable pub areGiven : List (Bool × ℕ) → Bool
+areGiven [] = true
+areGiven (c ∷ cs) = not (eqb (c .1) 0) && areGiven cs
+
+-- the first of some tests, and where none of them holds, of those after them
+pub first-then : (cs ds : List (Bool × ℕ)) → areGiven cs ≡ true → firstOf (cs ++ ds) ≡ cond (eqb (firstOf cs) 0) (firstOf ds) (firstOf cs)
+unfolding areGiven
+first-then [] ds h = refl
+first-then (c ∷ cs) ds h =
+    cases (eqb (c .1) 0)
+    (λ z. absurd (false≢true (simp z at h)))
+    (λ z. cases (c .0) (λ e. simp (e, z)) (λ e. simp e (first-then cs ds (simp z at h))))
 
 -- ---- what is left
 

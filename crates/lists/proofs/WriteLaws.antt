@@ -81,3 +81,8 @@ write-at base p l i h f =
     ap (λ (n : ℕ). getD (take base l ++ (p ++ drop (length p) (drop base l))) (n + i) 0) (sym (length-take-le base l h))
     ∙ getD-append-add (take base l) (p ++ drop (length p) (drop base l)) i 0
     ∙ List·getD-append p (drop (length p) (drop base l)) 0 i f
+
+-- a part put back with as many entries is a list written over the table
+pub put-writes : (base n : ℕ) (p l : List ℕ) → length p ≡ n → take base l ++ (p ++ drop n (drop base l)) ≡ writeAt base p l
+unfolding writeAt
+put-writes base n p l e = ap (λ (m : ℕ). take base l ++ (p ++ drop m (drop base l))) (sym e)

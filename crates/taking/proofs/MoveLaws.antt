@@ -13,7 +13,8 @@ use borrow.Author.Tests.{lt-ltb, le-ltb, ltb-false}
 use Rattle.lists.specs.Members.{mem, remove, above}
 use Rattle.lists.specs.Tables.{part, writeAt, writtenRows}
 use Rattle.lists.proofs.Cases.{cases}
-use Rattle.lists.proofs.MemberLaws.{length-front, ltb·zero-suc}
+use Rattle.lists.proofs.MemberLaws.{length-front, ltb·zero-suc, absent-remove}
+use Rattle.lists.proofs.WriteLaws.{put-writes}
 use Rattle.lists.proofs.PartLaws.{drop-rows}
 use Rattle.taking.specs.Parts.{front, toppedAt, toppedBy, Roomed}
 
@@ -66,16 +67,6 @@ front-old x l h = ap (λ (t : List ℕ). x ∷ t) (rw (add-one (length (above x 
       where
         rest : suc (length (above x l)) < suc (length l) → length (above x l) < length l
         rest q = omega arith
-
-absent-remove : (x : ℕ) (l : List ℕ) → mem x l ≡ false → remove x l ≡ l
-absent-remove x [] h = refl
-absent-remove x (y ∷ l) h =
-    cases (eqb x y) (λ e. absurd (true≢false (simp e at h))) (λ e. simp e (ap (λ (t : List ℕ). y ∷ t) (absent-remove x l (simp e at h))))
-
--- a part put back with as many entries is a list written over the table
-put-writes : (base n : ℕ) (p l : List ℕ) → length p ≡ n → take base l ++ (p ++ drop n (drop base l)) ≡ writeAt base p l
-unfolding writeAt
-put-writes base n p l e = ap (λ (m : ℕ). take base l ++ (p ++ drop m (drop base l))) (sym e)
 
 module _ (base used x : ℕ) (l : List ℕ) (inside : base + used ≤ length l) (p : ℕ) (left : p ≡ length (above x (part base used l))) where
   part-long : length (part base used l) ≡ used

@@ -3,7 +3,7 @@
 use Prim.Native.Nat.{ℕ, zero, suc, _+_, _*_, _≤_, _<_}
 use mathlib.Core.Path.{_≡_, refl, sym, ap, ap₂, fun-ext, _∙_}
 use mathlib.Core.Bool.{Bool, true, false, cond, not, _&&_}
-use mathlib.Core.List.{List}
+use mathlib.Core.List.{List, [], _∷_}
 use native.Mathlib.Omega.{arith}
 use lib.Dec.{eqb, ltb, leb}
 use lib.ListN.{length, getD, replicate}
@@ -15,7 +15,7 @@ use Rattle.lists.proofs.BoolLaws.{and-false-of}
 use Rattle.lists.proofs.Cases.{cases}
 use Rattle.lists.proofs.MemberLaws.{absent-above}
 use Rattle.lists.proofs.RaiseLaws.{groups-same}
-use Rattle.lists.proofs.TestLaws.{settled-done, settled-not, any-same, any-not}
+use Rattle.lists.proofs.TestLaws.{areGiven, first-then, settled-done, settled-not, any-same, any-not}
 use Rattle.cache.specs.Cache.{blockOf, ref}
 use Rattle.cache.proofs.SizeLaws.{block-wider}
 use Rattle.order.specs.Limits.{sizes, within, rows, stackNeed, countNeed}
@@ -111,17 +111,6 @@ raisable-of n r w taken ct f d small none k h e s g below =
 
 -- ---- the answer
 
--- the first of five tests, and then the rest
-first-five : (a b c d e : Bool) (rest : ℕ)
-    → cond a 1 (cond b 2 (cond c 3 (cond d 4 (cond e 5 rest))))
-    ≡ cond (eqb (cond a 1 (cond b 2 (cond c 3 (cond d 4 (cond e 5 0))))) 0) rest (cond a 1 (cond b 2 (cond c 3 (cond d 4 (cond e 5 0)))))
-first-five true b c d e rest = refl
-first-five false true c d e rest = refl
-first-five false false true d e rest = refl
-first-five false false false true e rest = refl
-first-five false false false false true rest = refl
-first-five false false false false false rest = refl
-
 module _ (v : Opened) (st ct : List ℕ) (a : ℕ) where
   abbrev full : Bool
   full = someSize isFull (world v st ct) (ref a)
@@ -131,10 +120,16 @@ module _ (v : Opened) (st ct : List ℕ) (a : ℕ) where
 
   answer-is : takeAnswer (world v st ct) (ref a)
       ≡ cond (eqb (earlyAnswer v (length st) (length ct)) 0) (cond full 6 (cond over 7 0)) (earlyAnswer v (length st) (length ct))
+  unfolding areGiven
   answer-is =
-      first-five (not (within (v .order))) (ltb (length st) (stackNeed (v .order))) (ltb (length ct) (countNeed (v .order))) (isForeign v)
-      (eqb (v .taken) (v .order .refs))
-      (cond full 6 (cond over 7 0))
+      first-then
+      ((not (within (v .order)), 1)
+      ∷ (ltb (length st) (stackNeed (v .order)), 2)
+      ∷ (ltb (length ct) (countNeed (v .order)), 3)
+      ∷ (isForeign v, 4)
+      ∷ (eqb (v .taken) (v .order .refs), 5)
+      ∷ [])
+      ((full, 6) ∷ (over, 7) ∷ []) refl
 
   pub answer-early : (r : ℕ) → r ≡ earlyAnswer v (length st) (length ct) → (r ≡ 0 → ⊥) → r ≡ takeAnswer (world v st ct) (ref a)
   answer-early r e ne =

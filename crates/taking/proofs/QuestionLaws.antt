@@ -3,7 +3,7 @@
 use Prim.Native.Nat.{ℕ, _+_, _-_, _*_, _≤_, _<_}
 use mathlib.Core.Path.{_≡_, refl, sym, ap, _∙_}
 use mathlib.Core.Bool.{Bool, true, false, cond, not}
-use mathlib.Core.List.{List}
+use mathlib.Core.List.{List, [], _∷_}
 use native.Mathlib.Nat.{add-mul, mul-assoc}
 use native.Mathlib.Omega.{arith}
 use lib.Dec.{eqb, ltb}
@@ -15,7 +15,7 @@ use Rattle.lists.proofs.BoolLaws.{or-none}
 use Rattle.lists.proofs.PartLaws.{part-at}
 use Rattle.lists.proofs.RaiseLaws.{cell-in, cell-end}
 use Rattle.lists.proofs.SumLaws.{sumTo-same}
-use Rattle.lists.proofs.TestLaws.{all-facts, none-first}
+use Rattle.lists.proofs.TestLaws.{areGiven, first-then, all-facts, none-first}
 use Rattle.units.specs.Refusals.{countOver}
 use Rattle.order.specs.Limits.{limits, within, sizes, rows, span, countNeed}
 use Rattle.taking.specs.Places.{cell, usedOf, countsAt}
@@ -49,24 +49,20 @@ asked-of v m b s w e =
 
 -- ---- the outcomes
 
--- the first of four tests, and then the rest
-first-four : (a b c d : Bool) (rest : ℕ)
-    → cond a 1 (cond b 3 (cond c 4 (cond d 8 rest)))
-    ≡ cond (eqb (cond a 1 (cond b 3 (cond c 4 (cond d 8 0)))) 0) rest (cond a 1 (cond b 3 (cond c 4 (cond d 8 0))))
-first-four true b c d rest = refl
-first-four false true c d rest = refl
-first-four false false true d rest = refl
-first-four false false false true rest = refl
-first-four false false false false rest = refl
-
 module _ (v : Opened) (ct : List ℕ) (b s w : ℕ) where
   abbrev early : ℕ
   early = unaskable v (length ct) b s w
 
   answer-is : missesAnswer v ct b s w ≡ cond (eqb early 0) (cond (ltb (v .taken) (hitsOf v ct b s w)) 7 0) early
+  unfolding areGiven
   answer-is =
-      first-four (not (within (v .order))) (ltb (length ct) (countNeed (v .order))) (isForeign v) (not (has (v .order) b s w))
-      (cond (ltb (v .taken) (hitsOf v ct b s w)) 7 0)
+      first-then
+      ((not (within (v .order)), 1)
+      ∷ (ltb (length ct) (countNeed (v .order)), 3)
+      ∷ (isForeign v, 4)
+      ∷ (not (has (v .order) b s w), 8)
+      ∷ [])
+      ((ltb (v .taken) (hitsOf v ct b s w), 7) ∷ []) refl
 
   pub early-none : missesAnswer v ct b s w ≡ 0 → early ≡ 0
   early-none e = none (eqb early 0) early refl (sym answer-is ∙ e)

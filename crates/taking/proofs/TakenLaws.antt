@@ -12,7 +12,7 @@ use Rattle.lists.specs.Tests.{anyTo, firstOf}
 use Rattle.lists.proofs.Cases.{cases}
 use Rattle.lists.proofs.CutLaws.{raised-cut, over-cut}
 use Rattle.lists.proofs.MemberLaws.{length-front}
-use Rattle.lists.proofs.PartLaws.{rows-same}
+use Rattle.lists.proofs.PartLaws.{rows-same, padded-none}
 use Rattle.lists.proofs.TestLaws.{any-same}
 use Rattle.cache.specs.Cache.{ref}
 use Rattle.units.specs.Refusals.{outsideLimits, shortStacks, shortCounts, foreignState, refsReached, stackFull, countOver}
@@ -28,10 +28,6 @@ use Rattle.taking.specs.Taking.{isForeign, taken, someSize, takeAnswer}
 use Rattle.taking.specs.declared.Opened.{Opened}
 use Rattle.taking.proofs.LookLaws.{length-stack}
 use Rattle.taking.proofs.NeedLaws.{fit-past}
-
--- a list that is long enough gets no zeros
-pub padded-none : (n : ℕ) (l : List ℕ) → n ≤ length l → padded n l ≡ l
-padded-none n l h = let z : n - length l ≡ 0 = omega arith in ap (λ (m : ℕ). l ++ replicate m 0) z ∙ append-nil l
 
 module _ (v : Opened) (st ct : List ℕ) (a : ℕ) (f : Fit v (length st) (length ct)) where
   pub full-at : (k : ℕ) → k < sizes (v .order)
