@@ -26,11 +26,11 @@ module _ (o : Outcome) (line : List ℕ) (goes : o .answer ≡ 0) (rest : List �
   still : not (eqb (o .answer) 0) ≡ false
   still = ap not (eq-eqb (o .answer) 0 goes)
 
-  pub many-refused : isTooMany (o .left .reading) ≡ true → (b : ℕ)
+  pub many-ends : isTooMany (o .left .reading) ≡ true → (b : ℕ)
       → fed byLines (held o 0 line) (b ∷ rest) .state ≡ stays (longLine (o .left .reading)) (o .left)
-  many-refused many b = many-at-once byLines sound o line still many b rest
+  many-ends many b = many-at-once byLines sound o line still many b rest
 
-  pub long-refused : isTooMany (o .left .reading) ≡ false → (part : List ℕ) → length part ≡ 255
+  pub long-ends : isTooMany (o .left .reading) ≡ false → (part : List ℕ) → length part ≡ 255
       → ((i : ℕ) → i < length part → getD part i 0 ≡ lf → ⊥) → (b : ℕ) → (b ≡ lf → ⊥)
       → fed byLines (held o 0 line) (part ++ (b ∷ rest)) .state ≡ stays (longLine (o .left .reading)) (o .left)
-  long-refused few part long none b ne = long-at-once byLines sound o line still few part long none b ne rest
+  long-ends few part long none b ne = long-at-once byLines sound o line still few part long none b ne rest

@@ -40,17 +40,17 @@ use Rattle.calls.proofs.QuestionLaws.{misses-are, misses-answered, ratios-answe
 pub opening-refused : {o : Order} {w : World} {n : ℕ} {w′ : World} → Opens o w n w′ → (n ≡ 0 → ⊥) → w′ ≡ w
 opening-refused {o} {w} c ne = c .left ∙ settled-not (openAnswer o w) (opened o w) w (λ z. ne (c .answer ∙ z))
 
-pub opening-done : {o : Order} {w : World} {n : ℕ} {w′ : World} → Opens o w n w′ → n ≡ 0 → w′ ≡ opened o w
-opening-done {o} {w} c z = c .left ∙ settled-done (openAnswer o w) (opened o w) w (sym (c .answer) ∙ z)
+pub opened-zeroed : {o : Order} {w : World} {n : ℕ} {w′ : World} → Opens o w n w′ → n ≡ 0 → w′ ≡ opened o w
+opened-zeroed {o} {w} c z = c .left ∙ settled-done (openAnswer o w) (opened o w) w (sym (c .answer) ∙ z)
 
 module _ (v : Opened) (ct : List ℕ) (b s n : ℕ) where
-  pub misses-refused : (q : Counted) → q ≡ missesOf v ct b s n → (q .answer ≡ 0 → ⊥) → q .misses ≡ 0
-  misses-refused q e ne =
+  pub no-misses : (q : Counted) → q ≡ missesOf v ct b s n → (q .answer ≡ 0 → ⊥) → q .misses ≡ 0
+  no-misses q e ne =
       ap (λ (q : Counted). q .misses) e
       ∙ settled-not (missesAnswer v ct b s n) (v .taken - hitsOf v ct b s n) 0 (λ z. ne (ap (λ (q : Counted). q .answer) e ∙ z))
 
-  pub ratios-refused : (q : Rated) → q ≡ ratiosOf v ct b s n → (q .answer ≡ 0 → ⊥) → q .ratios ≡ noRatios
-  ratios-refused q e ne =
+  pub no-ratios : (q : Rated) → q ≡ ratiosOf v ct b s n → (q .answer ≡ 0 → ⊥) → q .ratios ≡ noRatios
+  no-ratios q e ne =
       ap (λ (q : Rated). q .ratios) e
       ∙ settled-not (ratiosAnswer (missesOf v ct b s n) (v .taken)) (ratiosAt (missesOf v ct b s n .misses) (v .taken) b) noRatios
       (λ z. ne (ap (λ (q : Rated). q .answer) e ∙ z))
@@ -162,8 +162,8 @@ module _ (o : Order) (w₀ w₁ : World) (opens : Opens o w₀ 0 w₁) (cs : Lis
 
   -- ---- what the state and the stacks hold
 
-  pub taken-is : w .state .taken ≡ total referred l
-  taken-is = count-is w l past
+  pub taken-total : w .state .taken ≡ total referred l
+  taken-total = count-is w l past
 
   module _ (k : ℕ) (h : k < sizes o) where
     in-order : k < sizes (w .state .order)
@@ -172,8 +172,8 @@ module _ (o : Order) (w₀ w₁ : World) (opens : Opens o w₀ 0 w₁) (cs : Lis
     stack-seen : stackAt (w .state) (w .stacks) k ≡ seenIn (o .bmin .0 + k) l
     stack-seen = stack-is w l past k in-order ∙ ap (λ (x : Order). seenIn (x .bmin .0 + k) l) same
 
-    pub stack-distinct : Distinct (stackAt (w .state) (w .stacks) k)
-    stack-distinct = rw stack-seen (no-repeats (eventsOf (o .bmin .0 + k) l))
+    pub stack-once : Distinct (stackAt (w .state) (w .stacks) k)
+    stack-once = rw stack-seen (no-repeats (eventsOf (o .bmin .0 + k) l))
 
     pub stack-holds : (x : ℕ) → mem x (stackAt (w .state) (w .stacks) k) ≡ isSeen x (eventsOf (o .bmin .0 + k) l)
     stack-holds x = ap (mem x) stack-seen ∙ seen-is x (eventsOf (o .bmin .0 + k) l)

@@ -47,7 +47,7 @@ use Rattle.feeding.specs.Calls.{Calls as Feeds}
 use Rattle.feeding.specs.Feeding.{byLines, heldBy, start as noByte}
 use Rattle.feeding.specs.Lines.{lf, linesOf, joined}
 use Rattle.feeding.specs.Machine.{Held, held, fed, finished}
-use Rattle.feeding.proofs.RunLaws.{bytes-runs, calls-there as feeds-there}
+use Rattle.feeding.proofs.RunLaws.{bytes-runs, feeds-there}
 use Rattle.printing.specs.Grid.{gridOf, firstCache, Walks}
 use Rattle.printing.specs.Printed.{outputOf}
 use Rattle.printing.specs.Output.{printedFor}
@@ -71,7 +71,7 @@ module _ (o : Order) (st ct : List ℕ) (n : ℕ) (w′ : World) (opens : Opens 
   -- done: nothing taken, every used length 0, and the needed part of both tables zero
   pub opening-done : n ≡ 0
       → w′ ≡ world (record { order = o; taken = 0; used = replicate 8 0 }) (zeroed (stackNeed o) st) (zeroed (countNeed o) ct)
-  opening-done = outcomes.opening-done opens
+  opening-done = outcomes.opened-zeroed opens
 
 -- ---- taking a reference to the address a in any world w, a foreign state or foreign tables too
 
@@ -115,7 +115,7 @@ module _ (v : Opened) (ct : List ℕ) (b s w : ℕ) (q : Counted) (asks : q ≡ 
 
   -- refused: zero beside the number; always: the state as it was handed in
   pub demand-1-misses-refused : (q .answer ≡ 0 → ⊥) → q .misses ≡ 0
-  demand-1-misses-refused = outcomes.misses-refused v ct b s w q asks
+  demand-1-misses-refused = outcomes.no-misses v ct b s w q asks
 
   pub misses-state : q .state ≡ v
   misses-state = ap (λ (q : Counted). q .state) asks
@@ -127,7 +127,7 @@ module _ (v : Opened) (ct : List ℕ) (b s w : ℕ) (q : Rated) (asks : q ≡ ra
   demand-1-ratios = ap (λ (q : Rated). q .answer) asks
 
   pub demand-1-ratios-refused : (q .answer ≡ 0 → ⊥) → q .ratios ≡ noRatios
-  demand-1-ratios-refused = outcomes.ratios-refused v ct b s w q asks
+  demand-1-ratios-refused = outcomes.no-ratios v ct b s w q asks
 
   pub ratios-state : q .state ≡ v
   ratios-state = ap (λ (q : Rated). q .state) asks
@@ -213,11 +213,11 @@ module _ (o : Order) (st ct : List ℕ) (w₁ : World) (opens : Opens o (unopene
 
   -- the references taken are counted
   pub taken-counted : w .state .taken ≡ total referred l
-  taken-counted = outcomes.taken-is o (unopened st ct) w₁ opens cs l w calls
+  taken-counted = outcomes.taken-total o (unopened st ct) w₁ opens cs l w calls
 
   -- each stack is without repeats, a block is in it exactly if it was referenced, and the entries beyond its used length are zero
   pub stack-distinct : (k : ℕ) → k < sizes o → Distinct (stackAt (w .state) (w .stacks) k)
-  stack-distinct = outcomes.stack-distinct o (unopened st ct) w₁ opens cs l w calls
+  stack-distinct = outcomes.stack-once o (unopened st ct) w₁ opens cs l w calls
 
   pub stack-holds-the-referenced : (k : ℕ) → k < sizes o → (x : ℕ)
       → mem x (stackAt (w .state) (w .stacks) k) ≡ isSeen x (eventsOf (o .bmin .0 + k) l)
@@ -274,12 +274,12 @@ table-in-order = walk-is-grid
 module _ (o : Outcome) (line : List ℕ) (goes : o .answer ≡ 0) (rest : List ℕ) where
   pub too-many-at-once : isTooMany (o .left .reading) ≡ true → (b : ℕ)
       → fed byLines (held o 0 line) (b ∷ rest) .state ≡ stays (longLine (o .left .reading)) (o .left)
-  too-many-at-once = bytes.many-refused o line goes rest
+  too-many-at-once = bytes.many-ends o line goes rest
 
   pub too-long-at-once : isTooMany (o .left .reading) ≡ false → (part : List ℕ) → length part ≡ 255
       → ((i : ℕ) → i < length part → getD part i 0 ≡ lf → ⊥) → (b : ℕ) → (b ≡ lf → ⊥)
       → fed byLines (held o 0 line) (part ++ (b ∷ rest)) .state ≡ stays (longLine (o .left .reading)) (o .left)
-  too-long-at-once = bytes.long-refused o line goes rest
+  too-long-at-once = bytes.long-ends o line goes rest
 
 -- ---- the twelve cases at b = 4
 

@@ -15,7 +15,7 @@ use Rattle.reading.specs.Reading.{Desk, desk, Outcome, outcome, stays, start as
 use Rattle.reading.specs.Step.{isTooMany, inTrace, stepOf, longLine, ended as noMore}
 use Rattle.reading.proofs.StepLaws.{long-line-is-step}
 use Rattle.runs.specs.Input.{Runs, runFrom}
-use Rattle.runs.proofs.InputLaws.{run-there}
+use Rattle.runs.proofs.InputLaws.{run-there, long-refused}
 use Rattle.feeding.specs.declared.Feeding.{Feeding}
 use Rattle.feeding.specs.Lines.{lf, linesOf, joined}
 use Rattle.feeding.specs.Machine.{Held, held, feedByte, fed, inputEnds, finished, runOver}
@@ -23,12 +23,6 @@ use Rattle.feeding.specs.Feeding.{byLines, start, heldBy, Ends}
 use Rattle.feeding.specs.Calls.{Calls, ended, last, feed}
 use Rattle.feeding.proofs.ByteLaws.{Sound}
 use Rattle.feeding.proofs.InputLaws.{input-run, fed-slices}
-
-pub long-refused : (v : Reading) → longLine v .answer ≡ 0 → ⊥
-long-refused v =
-    picked (λ (s : Step). s .answer ≡ 0 → ⊥) (isTooMany v)
-    (λ e z. omega arith)
-    (λ e. picked (λ (n : ℕ). n ≡ 0 → ⊥) (inTrace v) (λ f z. omega arith) (λ f z. omega arith))
 
 pub sound : Sound byLines
 sound = record {
@@ -105,9 +99,9 @@ end-is f st ct =
     let theirs : Bool → Held Outcome = λ (t : Bool). held (cond (not t) (d .state) (byLines .ended (d .state))) (d .len) (d .line) in
     cases (eqb (f .answer) 0) (λ e. ap ours e ∙ sym (ap theirs e)) (λ e. ap ours e ∙ sym (ap theirs e))
 
-pub calls-there : (slices : List (List ℕ)) (f : Feeding) (st ct : List ℕ) → There f st ct slices
+pub feeds-there : (slices : List (List ℕ)) (f : Feeding) (st ct : List ℕ) → There f st ct slices
 unfolding joined
-calls-there [] f st ct =
+feeds-there [] f st ct =
     cases (eqb (f .len) 0)
     (λ e.
     let none = eqb-true (f .len) 0 e in
@@ -119,8 +113,8 @@ calls-there [] f st ct =
     let c : Calls f st ct [] (heldBy (endOf (stateOf d)) (d .state .left .stacks) (d .state .left .counts)) =
     last {g = stateOf d} some refl (end-is (stateOf d)) in
     subst (Calls f st ct []) (calls-are c) c)
-calls-there (bytes ∷ more) f st ct =
+feeds-there (bytes ∷ more) f st ct =
     let d = fed byLines (heldBy f st ct) bytes in
-    let rest = calls-there more (stateOf d) (d .state .left .stacks) (d .state .left .counts) in
+    let rest = feeds-there more (stateOf d) (d .state .left .stacks) (d .state .left .counts) in
     let c : Calls f st ct (bytes ∷ more) _ = feed {r = stateOf d} refl rest in
     subst (Calls f st ct (bytes ∷ more)) (calls-are c) c

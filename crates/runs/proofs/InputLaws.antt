@@ -24,7 +24,7 @@ goes-on-done o more e = ap (λ (t : Bool). cond t (runFrom (o .left) more) o) (e
 goes-on-refused : (o : Outcome) (more : List (List ℕ)) → (o .answer ≡ 0 → ⊥) → goesOn o more ≡ o
 goes-on-refused o more ne = ap (λ (t : Bool). cond t (runFrom (o .left) more) o) (ne-eqb (o .answer) 0 ne)
 
-long-refused : (v : Reading) → longLine v .answer ≡ 0 → ⊥
+pub long-refused : (v : Reading) → longLine v .answer ≡ 0 → ⊥
 long-refused v =
     picked (λ (s : Step). s .answer ≡ 0 → ⊥) (isTooMany v)
     (λ e z. omega arith)

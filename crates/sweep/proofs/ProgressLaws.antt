@@ -21,7 +21,8 @@ use Rattle.feeding.proofs.ByteLaws.{over-stays, over-finished, byte-many, byte-
 use Rattle.feeding.proofs.InputLaws.{fed-slices}
 use Rattle.printing.proofs.OutputLaws.{program-prints}
 use Rattle.sweep.specs.Run.{Answered}
-use Rattle.feeding.proofs.RunLaws.{sound, long-refused}
+use Rattle.runs.proofs.InputLaws.{long-refused}
+use Rattle.feeding.proofs.RunLaws.{sound}
 
 -- ---- the bytes that an input may still have: so many lines of 255 bytes and an LF, and the rest of this one
 
