@@ -11,6 +11,7 @@ use borrow.Author.Tests.{lt-ltb, ltb-true}
 use Rattle.lists.specs.Runs.{after, anyOn}
 use Rattle.lists.specs.Sums.{total}
 use Rattle.lists.specs.Tests.{anyTo}
+use Rattle.lists.proofs.Cases.{picked}
 use Rattle.lists.proofs.RunLaws.{never-on}
 use Rattle.lists.proofs.TestLaws.{any-same, any-none-of, any-first}
 use Rattle.cache.specs.Cache.{blockOf, touch, touched, Given, ref, referred, eventsAt, eventsOf}
@@ -24,6 +25,7 @@ use Rattle.sizes.proofs.SizeLaws.{total-after, stack-after, never-over}
 use Rattle.taking.proofs.NeedLaws.{answer-by-sizes}
 use Rattle.taking.specs.World.{World, sizeAt}
 use Rattle.taking.specs.Taking.{eventsIn, someSize, takeAnswer}
+use Rattle.calls.specs.Answers.{isFullAfter, answerAfter}
 use Rattle.calls.proofs.HistoryLaws.{History, size-next}
 
 -- one size is full exactly where its stack would be longer than room once all is taken
@@ -31,9 +33,12 @@ full-once : (o : Order) (q : Size) (b : ℕ) (g : Given)
     → anyOn (sizeStep o) (isFull o) q (eventsAt b g) ≡ ltb (o .room) (length (after (sizeStep o) q (eventsAt b g) .stack))
 full-once o q b (ref a) = or-false (isFull o q (touch (blockOf b a)))
 
--- the blocks of 2^b bytes seen, once g comes after `past`, are more than room
-abbrev pub fullAfter : Order → List Given → Given → ℕ → Bool
-fullAfter o past g b = ltb (o .room) (length (seenIn b (past ++ (g ∷ []))))
+-- only 0, 5 and 6 come
+pub after-cases : (P : ℕ → Type 0) → P 0 → P 5 → P 6 → (o : Order) (past : List Given) (g : Given) → P (answerAfter o past g)
+after-cases P done reached full o past g =
+    picked P (eqb (total referred past) (o .refs))
+    (λ e. reached)
+    (λ e. picked P (anyTo (sizes o) (λ (k : ℕ). isFullAfter o past g (o .bmin .0 + k))) (λ f. full) (λ f. done))
 
 module _ (w : World) (past : List Given) (i : History w past) where
   abbrev o : Order
@@ -69,18 +74,18 @@ module _ (w : World) (past : List Given) (i : History w past) where
         ap (λ (q : Size). anyOn (sizeStep o) (isOver o) q (eventsIn w g k)) (i .size k h)
         ∙ never-on (sizeStep o) (isOver o) (emptySize o) (never-over o) (eventsOf (at k) past) (eventsIn w g k))
 
-    full-is : (k : ℕ) → k < sizes o → anyOn (sizeStep o) (isFull o) (sizeAt w k) (eventsIn w g k) ≡ fullAfter o past g (at k)
+    full-is : (k : ℕ) → k < sizes o → anyOn (sizeStep o) (isFull o) (sizeAt w k) (eventsIn w g k) ≡ isFullAfter o past g (at k)
     full-is k h =
         full-once o (sizeAt w k) (at k) g
         ∙ ap (λ (q : Size). ltb (o .room) (length (q .stack))) (size-next w past i g k h)
         ∙ ap (λ (q : List ℕ). ltb (o .room) (length q)) (stack-after o (emptySize o) (eventsOf (at k) (past ++ (g ∷ []))))
 
     -- 6 comes where the blocks seen at some size would be more than room
-    pub full-all : someSize isFull w g ≡ anyTo (sizes o) (λ (k : ℕ). fullAfter o past g (at k))
+    pub full-all : someSize isFull w g ≡ anyTo (sizes o) (λ (k : ℕ). isFullAfter o past g (at k))
     full-all =
-        any-same (sizes o) (λ (k : ℕ). anyOn (sizeStep o) (isFull o) (sizeAt w k) (eventsIn w g k)) (λ (k : ℕ). fullAfter o past g (at k)) full-is
+        any-same (sizes o) (λ (k : ℕ). anyOn (sizeStep o) (isFull o) (sizeAt w k) (eventsIn w g k)) (λ (k : ℕ). isFullAfter o past g (at k)) full-is
 
-    down : (k : ℕ) → k < sizes o → fullAfter o past g (at k) ≡ true → fullAfter o past g (at 0) ≡ true
+    down : (k : ℕ) → k < sizes o → isFullAfter o past g (at k) ≡ true → isFullAfter o past g (at 0) ≡ true
     down k h e =
         let more = ltb-true (o .room) (length (seenIn (at k) (past ++ (g ∷ [])))) e in
         let less = no-longer (o .bmin .0) k (past ++ (g ∷ [])) in
@@ -88,15 +93,22 @@ module _ (w : World) (past : List Given) (i : History w past) where
         lt-ltb (o .room) (length (seenIn (at 0) (past ++ (g ∷ [])))) (omega arith)
 
     -- and the smallest decides that
-    pub full-by-smallest : someSize isFull w g ≡ fullAfter o past g (o .bmin .0)
+    pub full-by-smallest : someSize isFull w g ≡ isFullAfter o past g (o .bmin .0)
     full-by-smallest =
-        full-all ∙ any-first (sizes o) (λ (k : ℕ). fullAfter o past g (at k)) first-in down ∙ ap (fullAfter o past g) zeroth
+        full-all ∙ any-first (sizes o) (λ (k : ℕ). isFullAfter o past g (at k)) first-in down ∙ ap (isFullAfter o past g) zeroth
 
-    pub full-at-smallest : fullAfter o past g (o .bmin .0) ≡ anyOn (sizeStep o) (isFull o) (sizeAt w 0) (eventsIn w g 0)
-    full-at-smallest = ap (fullAfter o past g) (sym zeroth) ∙ sym (full-is 0 first-in)
+    pub full-at-smallest : isFullAfter o past g (o .bmin .0) ≡ anyOn (sizeStep o) (isFull o) (sizeAt w 0) (eventsIn w g 0)
+    full-at-smallest = ap (isFullAfter o past g) (sym zeroth) ∙ sym (full-is 0 first-in)
+
+    -- what a taking answers, told by what was given alone
+    pub answer-is : takeAnswer w g ≡ answerAfter o past g
+    answer-is =
+        answer-by-sizes w g (i .fitted .fit)
+        ∙ ap₂ (λ (full over : Bool). cond (eqb (w .state .taken) (o .refs)) 5 (cond full 6 (cond over 7 0))) full-all none-over
+        ∙ ap (λ (n : ℕ). cond (eqb n (o .refs)) 5 (cond (anyTo (sizes o) (λ (k : ℕ). isFullAfter o past g (at k))) 6 0)) count-is
 
     -- THE LAW: 5 where refs is reached, 6 where the stack of the smallest blocks would pass room, else done
-    pub answer-after : takeAnswer w g ≡ cond (eqb (w .state .taken) (o .refs)) 5 (cond (fullAfter o past g (o .bmin .0)) 6 0)
+    pub answer-after : takeAnswer w g ≡ cond (eqb (w .state .taken) (o .refs)) 5 (cond (isFullAfter o past g (o .bmin .0)) 6 0)
     answer-after =
         answer-by-sizes w g (i .fitted .fit)
         ∙ ap₂ (λ (t u : Bool). cond (eqb (w .state .taken) (o .refs)) 5 (cond t 6 (cond u 7 0))) full-by-smallest none-over

@@ -28,8 +28,9 @@ use Rattle.taking.specs.Ratios.{ratiosAnswer, ratiosOf, ratiosAt, noRatios}
 use Rattle.taking.specs.Taking.{Takes, taken, takeAnswer}
 use Rattle.taking.specs.World.{World}
 use Rattle.taking.proofs.TakenLaws.{full-at, full-each}
+use Rattle.calls.specs.Answers.{isFullAfter}
 use Rattle.calls.specs.Calls.{Call, Calls}
-use Rattle.calls.proofs.AnswerLaws.{count-is, stack-is, fullAfter, full-by-smallest, full-at-smallest, answer-after}
+use Rattle.calls.proofs.AnswerLaws.{count-is, stack-is, full-by-smallest, full-at-smallest, answer-after}
 use Rattle.calls.proofs.CallLaws.{opened-is, history-after, order-after, kept-by-calls}
 use Rattle.calls.proofs.HistoryLaws.{History}
 use Rattle.calls.proofs.PassedLaws.{stacks-past-taken, counts-past-taken}
@@ -133,14 +134,14 @@ module _ (o : Order) (w₀ w₁ : World) (opens : Opens o w₀ 0 w₁) (cs : Lis
     )
 
   module _ (g : Given) (n : ℕ) (w′ : World) (takes : Takes w g n w′) where
-    pub answer-promised : n ≡ cond (eqb (total referred l) (o .refs)) 5 (cond (fullAfter o l g (o .bmin .0)) 6 0)
+    pub answer-promised : n ≡ cond (eqb (total referred l) (o .refs)) 5 (cond (isFullAfter o l g (o .bmin .0)) 6 0)
     answer-promised =
         takes .answer
         ∙ answer-after w l past g
-        ∙ ap₂ (λ (t : ℕ) (x : Order). cond (eqb t (x .refs)) 5 (cond (fullAfter x l g (x .bmin .0)) 6 0)) (count-is w l past) same
+        ∙ ap₂ (λ (t : ℕ) (x : Order). cond (eqb t (x .refs)) 5 (cond (isFullAfter x l g (x .bmin .0)) 6 0)) (count-is w l past) same
 
     pub neither-4-nor-7 : (n ≡ 4 → ⊥) × (n ≡ 7 → ⊥)
-    neither-4-nor-7 = apart (eqb (total referred l) (o .refs)) (fullAfter o l g (o .bmin .0)) answer-promised
+    neither-4-nor-7 = apart (eqb (total referred l) (o .refs)) (isFullAfter o l g (o .bmin .0)) answer-promised
       where
         apart : (t u : Bool) → n ≡ cond t 5 (cond u 6 0) → (n ≡ 4 → ⊥) × (n ≡ 7 → ⊥)
         apart true u e = (λ z. omega arith, λ z. omega arith)

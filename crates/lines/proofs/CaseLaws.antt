@@ -17,7 +17,7 @@ use Rattle.lines.specs.declared.Kind.the-variants.{Read, Write, Fetch, U
 use Rattle.lines.specs.declared.OrderLine.{OrderLine}
 use Rattle.lines.specs.declared.OrderLine.the-variants.{Refused}
 use Rattle.lines.specs.declared.TraceLine.{TraceLine}
-use Rattle.lines.specs.declared.TraceLine.the-variants.{Ref, Skipped, Refused as BadTrace}
+use Rattle.lines.specs.declared.TraceLine.the-variants.{Ref, Escape, Refused as BadTrace}
 
 -- ---- an order line
 
@@ -52,7 +52,7 @@ module _ (P : OrderLine → Type 0) where
 
 -- ---- a trace line
 
-module _ (P : TraceLine → Type 0) (ref : (kind : Kind) (a : Addr) → P (Ref kind a)) (skipped : P Skipped) (bad : P (BadTrace badTraceLine)) where
+module _ (P : TraceLine → Type 0) (ref : (kind : Kind) (a : Addr) → P (Ref kind a)) (escape : P Escape) (bad : P (BadTrace badTraceLine)) where
   labelled-cases : (label address : ℕ) → P (labelled label address)
   labelled-cases label address =
       picked P (eqb label (code "0"))
@@ -61,7 +61,7 @@ module _ (P : TraceLine → Type 0) (ref : (kind : Kind) (a : Addr) → P (Ref k
       (λ e. ref Write (record { 0 = address }))
       (λ e. picked P (eqb label (code "2"))
       (λ e. ref Fetch (record { 0 = address }))
-      (λ e. picked P (eqb label (code "3")) (λ e. ref Unknown (record { 0 = address })) (λ e. skipped))))
+      (λ e. picked P (eqb label (code "3")) (λ e. ref Unknown (record { 0 = address })) (λ e. escape))))
 
   address-cases : (label n address : ℕ) (rest : List ℕ) → P (inAddress label n address rest)
   unfolding inAddress

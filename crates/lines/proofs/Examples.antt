@@ -9,7 +9,7 @@ use Rattle.lines.specs.OrderLine.{startsWith, allDecimal, isNumber, deci
 use Rattle.lines.specs.declared.Kind.the-variants.{Read, Write, Fetch, Unknown}
 use Rattle.lines.specs.declared.Kinds.the-variants.{Data}
 use Rattle.lines.specs.declared.TraceLine.{TraceLine}
-use Rattle.lines.specs.declared.TraceLine.the-variants.{Ref, Skipped, Refused}
+use Rattle.lines.specs.declared.TraceLine.the-variants.{Ref, Escape, Refused}
 use Rattle.lines.specs.declared.OrderLine.{OrderLine}
 use Rattle.lines.specs.declared.OrderLine.the-variants.{Bmin, Refs, Kinds as Counting, Begin, Refused as RefusedOrder}
 
@@ -27,7 +27,7 @@ traceTable =
     ∷ (text "3 1 ", Ref Unknown (record { 0 = 1 }))
     ∷ (text "2 10 a comment\r", Ref Fetch (record { 0 = 16 }))
     ∷ (text "2 0 " ++ comment 251, Ref Fetch (record { 0 = 0 }))
-    ∷ (text "4 0", Skipped)
+    ∷ (text "4 0", Escape)
     ∷ (text "2 0 " ++ comment 252, Refused 11)
     ∷ (text "2 123456789", Refused 11)
     ∷ (text "2 000000010", Refused 11)

@@ -11,7 +11,7 @@ use Rattle.lines.specs.declared.Kind.the-variants.{Read, Write, Fetch, U
 use Rattle.lines.specs.declared.Kinds.{Kinds}
 use Rattle.lines.specs.declared.Kinds.the-variants.{All, Fetch as Fetches, Data}
 use Rattle.lines.specs.declared.TraceLine.{TraceLine}
-use Rattle.lines.specs.declared.TraceLine.the-variants.{Ref, Skipped, Refused as BadTrace}
+use Rattle.lines.specs.declared.TraceLine.the-variants.{Ref, Escape, Refused as BadTrace}
 use Rattle.lines.specs.declared.OrderLine.{OrderLine}
 use Rattle.lines.specs.declared.OrderLine.the-variants.{Bmin, Bmax, Smax, Ways, Room, Refs, Kinds as Counting, Begin, Refused as BadOrder}
 
@@ -22,7 +22,7 @@ kindOf label = cond (eqb label 0) Read (cond (eqb label 1) Write (cond (eqb labe
 
 traceBy : ℕ → List ℕ → TraceLine
 traceBy n [] = BadTrace n
-traceBy n (label ∷ []) = Skipped
+traceBy n (label ∷ []) = Escape
 traceBy n (label ∷ a ∷ more) = Ref (kindOf label) (record { 0 = a })
 
 trace-told : (t : TraceLine) → traceBy (traceSaid t .number) (traceSaid t .values) ≡ t
@@ -31,7 +31,7 @@ trace-told (Ref Read a) = refl
 trace-told (Ref Write a) = refl
 trace-told (Ref Fetch a) = refl
 trace-told (Ref Unknown a) = refl
-trace-told Skipped = refl
+trace-told Escape = refl
 trace-told (BadTrace n) = refl
 
 pub trace-says : {t u : TraceLine} → t ≡ u → traceSaid u ≡ traceSaid t

@@ -6,7 +6,7 @@ use Rattle.units.specs.Refusals.{done}
 use Rattle.lines.specs.TraceLine.{labelOf}
 use Rattle.lines.specs.OrderLine.{labelsOf}
 use Rattle.lines.specs.declared.TraceLine.{TraceLine}
-use Rattle.lines.specs.declared.TraceLine.the-variants.{Ref, Skipped, Refused as BadTrace}
+use Rattle.lines.specs.declared.TraceLine.the-variants.{Ref, Escape, Refused as BadTrace}
 use Rattle.lines.specs.declared.OrderLine.{OrderLine}
 use Rattle.lines.specs.declared.OrderLine.the-variants.{Bmin, Bmax, Smax, Ways, Room, Refs, Kinds as Counting, Begin, Refused as BadOrder}
 
@@ -23,7 +23,7 @@ refused n = record { number = n; values = [] }
 -- a trace line: its label, and the address of a reference
 abbrev pub traceSaid : TraceLine → Said
 traceSaid (Ref kind a) = good (labelOf kind ∷ a .0 ∷ [])
-traceSaid Skipped = good (4 ∷ [])
+traceSaid Escape = good (4 ∷ [])
 traceSaid (BadTrace n) = refused n
 
 -- an order line: its place in the order, from 0 on, and then the number, or the labels that are counted

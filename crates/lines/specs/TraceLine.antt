@@ -12,18 +12,18 @@ use Rattle.lines.specs.Bytes.{between, isBlank, isHex, hexValue, longest
 use Rattle.lines.specs.declared.Kind.{Kind}
 use Rattle.lines.specs.declared.Kind.the-variants.{Read, Write, Fetch, Unknown}
 use Rattle.lines.specs.declared.TraceLine.{TraceLine}
-use Rattle.lines.specs.declared.TraceLine.the-variants.{Ref, Skipped, Refused}
+use Rattle.lines.specs.declared.TraceLine.the-variants.{Ref, Escape, Refused}
 
 abbrev pub refused : TraceLine
 refused = Refused badTraceLine
 
--- a well-formed line: 0 read, 1 write, 2 fetch, 3 unknown; 4, an escape, is skipped
+-- a well-formed line: 0 read, 1 write, 2 fetch, 3 unknown; 4 an escape
 abbrev pub labelled : ℕ → ℕ → TraceLine
 labelled label address =
     cond (eqb label (code "0")) (Ref Read (record { 0 = address }))
     (cond (eqb label (code "1")) (Ref Write (record { 0 = address }))
     (cond (eqb label (code "2")) (Ref Fetch (record { 0 = address }))
-    (cond (eqb label (code "3")) (Ref Unknown (record { 0 = address })) Skipped)))
+    (cond (eqb label (code "3")) (Ref Unknown (record { 0 = address })) Escape)))
 
 -- after n digits of the address: the end, a blank and a comment, or one more digit where n is below 8
 unfoldable pub inAddress : ℕ → ℕ → ℕ → List ℕ → TraceLine

@@ -27,8 +27,8 @@ pub enum Kind {
 // What a line of the trace reads as.
 pub enum TraceLine {
     Ref(Kind, Addr),
-    // A well-formed line with label 4, an escape.
-    Skipped,
+    // A skipped line: well-formed, with label 4, an escape.
+    Escape,
     // The refusal number.
     Refused(u32),
 }
@@ -66,7 +66,7 @@ fn labelled(label: u8, address: u32) -> TraceLine
         b'1' => TraceLine::Ref(Kind::Write, Addr(address)),
         b'2' => TraceLine::Ref(Kind::Fetch, Addr(address)),
         b'3' => TraceLine::Ref(Kind::Unknown, Addr(address)),
-        _ => TraceLine::Skipped,
+        _ => TraceLine::Escape,
     }
 }
 

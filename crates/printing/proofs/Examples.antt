@@ -2,11 +2,10 @@
 use mathlib.Core.Path.{_≡_, refl}
 use mathlib.Core.List.{[], _∷_}
 use Rattle.lines.specs.Bytes.{text}
-use Rattle.printing.specs.Printed.{placesFrom, digitsOf, fieldsAfter, headLines, cacheLine, refusalLine, decimalOf}
+use Rattle.printing.specs.Printed.{placesFrom, digitsOf, fieldsAfter, cacheLine, refusalLine, decimalOf}
 
-pub printed-examples : headLines 8 0 ∷ cacheLine 4 1 2 5 ∷ cacheLine 12 14 16 4000000000 ∷ refusalLine 26 4294967296 ∷ decimalOf 0 ∷ []
-    ≡ text "edition=1\nrefs=8\nskipped=0\n"
-    ∷ text "b=4 s=1 w=2 misses=5\n"
+pub printed-examples : cacheLine 4 1 2 5 ∷ cacheLine 12 14 16 4000000000 ∷ refusalLine 26 4294967296 ∷ decimalOf 0 ∷ []
+    ≡ text "b=4 s=1 w=2 misses=5\n"
     ∷ text "b=12 s=14 w=16 misses=4000000000\n"
     ∷ text "refused=26 line=4294967296\n"
     ∷ text "0"

@@ -2,7 +2,7 @@
 use Prim.Native.Nat.{ℕ, _+_, _≤_, _<_}
 use mathlib.Core.Path.{_≡_, refl, sym, ap, _∙_, subst}
 use mathlib.Core.Bool.{Bool, true, false, cond}
-use mathlib.Core.List.{List, [], _∷_, _++_, append-assoc}
+use mathlib.Core.List.{List, [], _∷_}
 use native.Mathlib.Omega.{arith}
 use lib.Dec.{leb}
 use lib.ListN.{length}
@@ -10,7 +10,7 @@ use lib.Seq.{length-take-le}
 use borrow.Author.Tests.{le-leb, lt-leb}
 use Rattle.lists.proofs.Cases.{picked}
 use Rattle.lines.specs.Bytes.{text}
-use Rattle.printing.specs.Printed.{decimalOf, fieldsAfter, cacheLine, refusalLine, headLines}
+use Rattle.printing.specs.Printed.{fieldsAfter, cacheLine, refusalLine}
 use Rattle.printing.specs.Forms.{filled, most, Puts, lineMost, Prints}
 use Rattle.printing.proofs.PutLaws.{length-puts, filled-most}
 
@@ -20,9 +20,6 @@ cacheForm = text "b=# s=# w=# misses=#\n"
 abbrev pub refusalForm : List ℕ
 refusalForm = text "refused=# line=#\n"
 
-abbrev pub headForm : List ℕ
-headForm = text "edition=#\nrefs=#\nskipped=#\n"
-
 pub cache-form : (b s w misses : ℕ) → filled cacheForm (b ∷ s ∷ w ∷ misses ∷ []) ≡ cacheLine b s w misses
 unfolding filled fieldsAfter
 cache-form b s w misses = refl
@@ -30,15 +27,6 @@ cache-form b s w misses = refl
 pub refusal-form : (answer line : ℕ) → filled refusalForm (answer ∷ line ∷ []) ≡ refusalLine answer line
 unfolding filled fieldsAfter
 refusal-form answer line = refl
-
-heads : (a b c : List ℕ)
-    → (text "edition=" ++ (a ++ (10 ∷ []))) ++ ((text "refs=" ++ (b ++ (10 ∷ []))) ++ (text "skipped=" ++ (c ++ (10 ∷ []))))
-    ≡ text "edition=" ++ (a ++ (10 ∷ (text "refs=" ++ (b ++ (10 ∷ (text "skipped=" ++ (c ++ (10 ∷ []))))))))
-heads a b c = simp append-assoc
-
-pub head-form : (refs skipped : ℕ) → filled headForm (1 ∷ refs ∷ skipped ∷ []) ≡ headLines refs skipped
-unfolding filled fieldsAfter
-head-form refs skipped = sym (heads (decimalOf 1) (decimalOf refs) (decimalOf skipped))
 
 -- room for the longest line is room for each
 pub cache-most : most cacheForm ≤ lineMost
@@ -48,10 +36,6 @@ cache-most = omega arith
 pub refusal-most : most refusalForm ≤ lineMost
 unfolding most
 refusal-most = omega arith
-
-pub head-most : most headForm ≤ lineMost
-unfolding most
-head-most = omega arith
 
 -- ---- a line put into a lent buffer
 

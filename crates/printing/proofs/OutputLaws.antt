@@ -17,10 +17,10 @@ use Rattle.order.specs.declared.Order.{Order}
 use Rattle.taking.specs.Opening.{unopened}
 use Rattle.taking.specs.Questions.{has, asked, missesOf}
 use Rattle.reading.specs.Reading.{desk, Outcome, start as noLine}
-use Rattle.runs.specs.Input.{Runs, headerOf, traceOf, orderIn, givenOf}
+use Rattle.runs.specs.Input.{Runs, headerOf, orderIn, givenOf}
 use Rattle.runs.specs.Endings.{inputEnding}
 use Rattle.runs.proofs.InputLaws.{run-there}
-use Rattle.runs.proofs.ProgramLaws.{program-answer, program-line, program-order, program-limits, program-misses, program-refs, program-skipped}
+use Rattle.runs.proofs.ProgramLaws.{program-answer, program-line, program-order, program-limits, program-misses, program-refs, program-tally}
 use Rattle.feeding.specs.declared.Feeding.{Feeding}
 use Rattle.feeding.specs.Lines.{linesOf}
 use Rattle.feeding.specs.Machine.{Held, fed, finished}
@@ -81,12 +81,9 @@ module _ (st ct : List ℕ) (lines : List (List ℕ)) (o : Outcome) (run : Runs 
       let same = cache-printed (r .bmin .0 + k) (0 + j) (1 + i) (omega arith, (omega arith, (omega arith, (omega arith, (omega arith, tt))))) in
       lines-one ours c ∙ ap (λ (l : List ℕ). l ++ []) same ∙ sym (lines-one theirs c))))
 
-  table-printed : tableOf (o .left .reading .opened) (o .left .reading .tally .skipped) (o .left .counts) ≡ tableOver lines
+  table-printed : tableOf (o .left .reading .opened) (o .left .reading .tally) (o .left .counts) ≡ tableOver lines
   table-printed =
-      let refs = program-refs st ct lines o run done in
-      let others : o .left .reading .tally .skipped ≡ length (traceOf lines) - total referred (givenOf lines) =
-      omega (arith, program-skipped st ct lines o run done) in
-      ap₂ _++_ (ap₂ headLines refs others)
+      ap₂ _++_ (ap₂ headLines (program-refs st ct lines o run done) (program-tally st ct lines o run done))
       (grid-printed ∙ ap (λ (x : Order). linesBy (lineOver (givenOf lines)) (gridOf x)) (program-order st ct lines o run done))
 
 -- ---- the output
@@ -97,7 +94,7 @@ pub run-printed : (st ct : List ℕ) (lines : List (List ℕ)) (o : Outcome) →
 run-printed st ct lines o run =
     let e = inputEnding (unopened st ct) [] lines in
     let same = program-answer st ct lines o run in
-    let table = tableOf (o .left .reading .opened) (o .left .reading .tally .skipped) (o .left .counts) in
+    let table = tableOf (o .left .reading .opened) (o .left .reading .tally) (o .left .counts) in
     let refusal = refusalLine (o .answer) (o .left .reading .lines) in
     cases (eqb (o .answer) 0)
     (λ t.

@@ -1,14 +1,14 @@
 -- THE PROGRAM, from the bytes that it reads to the bytes that it prints, with no state, no stack and no table's contents: the lines of the
 -- input alone say where it ends (crates/runs/specs/Endings.antt), and each number printed is that of one cache by itself. Assumes nothing.
-use Prim.Native.Nat.{ℕ, _-_}
+use Prim.Native.Nat.{ℕ}
 use mathlib.Core.Bool.{cond}
 use mathlib.Core.List.{List, [], _++_}
 use lib.Dec.{eqb}
-use lib.ListN.{length}
 use Rattle.lists.specs.Sums.{total}
 use Rattle.cache.specs.Cache.{Given, referred, missesOver}
 use Rattle.taking.specs.Opening.{unopened}
-use Rattle.runs.specs.Input.{headerOf, traceOf, orderIn, givenOf}
+use Rattle.reading.specs.Meaning.{talliedIn}
+use Rattle.runs.specs.Input.{headerOf, orderIn, meantOf, givenOf}
 use Rattle.runs.specs.Endings.{Ending, inputEnding}
 use Rattle.feeding.specs.Lines.{linesOf}
 use Rattle.printing.specs.declared.Walk.{Walk}
@@ -21,7 +21,7 @@ lineOver given c = cacheLine (c .b) (c .s) (c .w) (missesOver (c .b) (c .s) (c .
 
 abbrev pub tableOver : List (List ℕ) → List ℕ
 tableOver lines =
-    headLines (total referred (givenOf lines)) (length (traceOf lines) - total referred (givenOf lines))
+    headLines (total referred (givenOf lines)) (talliedIn (meantOf lines))
     ++ linesBy (lineOver (givenOf lines)) (gridOf (orderIn (headerOf lines)))
 
 abbrev pub endingOver : Ending → List (List ℕ) → List ℕ

@@ -9,6 +9,7 @@ use Rattle.taking.specs.declared.Counted.{Counted}
 use Rattle.taking.specs.declared.Opened.{Opened}
 use Rattle.taking.specs.Questions.{missesOf}
 use Rattle.reading.specs.declared.Reading.{Reading}
+use Rattle.reading.specs.declared.Tally.{Tally}
 use Rattle.printing.specs.declared.Walk.{Walk}
 use Rattle.printing.specs.Grid.{gridOf}
 
@@ -45,8 +46,8 @@ lineOf f more = fieldOf f ++ fieldsAfter more
 
 -- ---- the output
 
-abbrev pub headLines : ℕ → ℕ → List ℕ
-headLines refs skipped = lineOf (text "edition", 1) [] ++ (lineOf (text "refs", refs) [] ++ lineOf (text "skipped", skipped) [])
+abbrev pub headLines : ℕ → Tally → List ℕ
+headLines refs tally = lineOf (text "edition", 1) [] ++ (lineOf (text "refs", refs) [] ++ lineOf (text "skipped", tally .skipped) [])
 
 abbrev pub cacheLine : ℕ → ℕ → ℕ → ℕ → List ℕ
 cacheLine b s w misses = lineOf (text "b", b) ((text "s", s) ∷ (text "w", w) ∷ (text "misses", misses) ∷ [])
@@ -66,9 +67,9 @@ unfoldable pub linesBy : (Walk → List ℕ) → List Walk → List ℕ
 linesBy line [] = []
 linesBy line (c ∷ more) = line c ++ linesBy line more
 
-abbrev pub tableOf : Opened → ℕ → List ℕ → List ℕ
-tableOf v skipped ct = headLines (v .taken) skipped ++ linesBy (lineAt v ct) (gridOf (v .order))
+abbrev pub tableOf : Opened → Tally → List ℕ → List ℕ
+tableOf v tally ct = headLines (v .taken) tally ++ linesBy (lineAt v ct) (gridOf (v .order))
 
 -- THE OUTPUT: the table, or the refusal alone
 abbrev pub outputOf : ℕ → Reading → List ℕ → List ℕ
-outputOf answer v ct = cond (eqb answer 0) (tableOf (v .opened) (v .tally .skipped) ct) (refusalLine answer (v .lines))
+outputOf answer v ct = cond (eqb answer 0) (tableOf (v .opened) (v .tally) ct) (refusalLine answer (v .lines))

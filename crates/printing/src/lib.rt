@@ -1,6 +1,7 @@
 // The printed output as bytes in a lent buffer, a line at a time (SCOPE, "Program, order lines and din lines"), and
 // the walk over the caches of the table.
 use order::Order;
+use reading::Tally;
 use taking::Opened;
 use units::ByteExp;
 ghost use mathlib.Core.Path.{_≡_};
@@ -75,12 +76,13 @@ impl Walk {
 }
 
 // The head of the table.
-pub fn head_lines(refs: u32, skipped: u32, out: &mut [u8]) -> usize
-    ensures { λ r. ⌜ Prints (headLines refs skipped) (now (out .entry)) r (now (out .exit)) ⌝ }
+pub fn head_lines(refs: u32, tally: Tally, out: &mut [u8]) -> usize
+    ensures { λ r. ⌜ Prints (headLines refs tally) (now (out .entry)) r (now (out .exit)) ⌝ }
 {
     if out.len() < LINE_MOST {
         return 0;
     }
+    let skipped = tally.skipped;
     let numbers = [1, refs as u64, skipped as u64];
     fill(out, 0, b"edition=#\nrefs=#\nskipped=#\n", &numbers)
 }

@@ -25,6 +25,7 @@ use Rattle.lines.specs.OrderLine.{orderLineOf, countsKind}
 use Rattle.reading.specs.Reading.{kindsNext, beginNext, traceNext, withStage, withReading, worldOf, withWorld}
 use Rattle.reading.specs.Reading.{Desk, desk, Outcome, outcome, answered, stays}
 use Rattle.reading.specs.Head.{begun, beginAt, orderOf, opening}
+use Rattle.reading.specs.Meaning.{meant}
 use Rattle.reading.specs.Step.{takes, passed, traceStep, inTrace, isTooMany, stepOf, longLine}
 
 -- a taking: the world handed back goes into the next state
@@ -79,11 +80,11 @@ begin-out-of-place d early late = simp (ne-eqb (d .reading .stage) kindsNext ear
 
 -- a reference, by whether its kind is counted
 pub counted-step : (d : Desk) (kind : Kind) (a : Addr) → countsKind (d .reading .head .kinds) kind ≡ true
-    → takes d (ref (a .0)) ≡ traceStep d (Ref kind a)
+    → takes d (ref (a .0)) ≡ traceStep d (meant (d .reading .head .kinds) (Ref kind a))
 counted-step d kind a e = simp e
 
 pub passed-step : (d : Desk) (kind : Kind) (a : Addr) → countsKind (d .reading .head .kinds) kind ≡ false
-    → stays (passed (d .reading)) d ≡ traceStep d (Ref kind a)
+    → stays (passed (d .reading)) d ≡ traceStep d (meant (d .reading .head .kinds) (Ref kind a))
 passed-step d kind a e = simp e
 
 -- a line longer than the buffer: `long_line` answers as `step` would, whatever the line says

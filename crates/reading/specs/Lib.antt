@@ -1,4 +1,5 @@
 pub mod Head
+pub mod Meaning
 pub mod Reading
 pub mod Step
 pub mod Tables

@@ -72,9 +72,12 @@ withTally t v = record { lines = v .lines; stage = v .stage; head = v .head; tal
 abbrev pub withOpened : Opened → Reading → Reading
 withOpened o v = record { lines = v .lines; stage = v .stage; head = v .head; tally = v .tally; opened = o }
 
+abbrev pub withSkipped : ℕ → Tally → Tally
+withSkipped n t = record { skipped = n }
+
 -- one more line skipped: no input has more than 4,294,967,295 lines, so the count never stops short in a run from the start
 abbrev pub oneSkipped : Tally → Tally
-oneSkipped t = record { skipped = min (t .skipped + 1) 4294967295 }
+oneSkipped t = withSkipped (min (t .skipped + 1) 4294967295) t
 
 -- ---- what a line works on
 

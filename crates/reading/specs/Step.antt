@@ -6,18 +6,16 @@ use mathlib.Core.Bool.{Bool, cond}
 use mathlib.Core.List.{List}
 use lib.Dec.{eqb, leb}
 use Rattle.lists.specs.Tests.{settled}
-use Rattle.cache.specs.Cache.{Given, ref}
+use Rattle.cache.specs.Cache.{Given}
 use Rattle.units.specs.Refusals.{done, badOrderLine, badTraceLine, tooManyLines}
 use Rattle.taking.specs.Taking.{takeAnswer, taken}
-use Rattle.lines.specs.declared.TraceLine.{TraceLine}
-use Rattle.lines.specs.declared.TraceLine.the-variants.{Ref, Skipped, Refused as BadTrace}
-use Rattle.lines.specs.TraceLine.{traceLineOf}
-use Rattle.lines.specs.OrderLine.{orderLineOf, countsKind}
+use Rattle.lines.specs.OrderLine.{orderLineOf}
 use Rattle.reading.specs.declared.Reading.{Reading}
 use Rattle.reading.specs.declared.Step.{Step}
 use Rattle.reading.specs.Reading.{traceNext, withLines, withTally, oneSkipped}
 use Rattle.reading.specs.Reading.{Desk, withReading, worldOf, withWorld, Outcome, outcome, answered, stays}
 use Rattle.reading.specs.Head.{orderStep}
+use Rattle.reading.specs.Meaning.{Meaning, gives, skips, fails, meaningOf}
 
 -- ---- a line of the trace
 
@@ -25,14 +23,14 @@ use Rattle.reading.specs.Head.{orderStep}
 abbrev pub takes : Desk → Given → Outcome
 takes d g = let n = takeAnswer (worldOf d) g in outcome n (settled n (withWorld (taken (worldOf d) g) d) d)
 
--- a line that is skipped, or whose kind is not counted, is only counted among the skipped
+-- a line that is skipped is only counted
 abbrev pub passed : Reading → Step
 passed v = answered done (withTally (oneSkipped (v .tally)) v)
 
-abbrev pub traceStep : Desk → TraceLine → Outcome
-traceStep d (Ref kind a) = cond (countsKind (d .reading .head .kinds) kind) (takes d (ref (a .0))) (stays (passed (d .reading)) d)
-traceStep d Skipped = stays (passed (d .reading)) d
-traceStep d (BadTrace n) = stays (answered n (d .reading)) d
+abbrev pub traceStep : Desk → Meaning → Outcome
+traceStep d (gives g) = takes d g
+traceStep d skips = stays (passed (d .reading)) d
+traceStep d (fails n) = stays (answered n (d .reading)) d
 
 -- ---- any line
 
@@ -55,7 +53,7 @@ counted d = withReading (withLines (d .reading .lines + 1) (d .reading)) d
 abbrev pub stepOf : Desk → List ℕ → Outcome
 stepOf d line =
     cond (isTooMany (d .reading)) (stays (answered tooManyLines (withLines (linesMost + 1) (d .reading))) d)
-    (cond (inTrace (d .reading)) (traceStep (counted d) (traceLineOf line)) (orderStep (counted d) (orderLineOf line)))
+    (cond (inTrace (d .reading)) (traceStep (counted d) (meaningOf (d .reading .head .kinds) line)) (orderStep (counted d) (orderLineOf line)))
 
 -- a line longer than the line buffer, however long it is: 10 before the begin line and 11 after it
 abbrev pub longLine : Reading → Step

@@ -7,7 +7,7 @@ use units::Addr;
 use units::refusal;
 ghost use mathlib.Core.Path.{_≡_};
 ghost use Rattle.cache.specs.Cache.{ref};
-ghost use Rattle.lines.specs.TraceLine.{traceLineOf};
+ghost use Rattle.reading.specs.Meaning.{meaningOf};
 ghost use Rattle.reading.specs.Reading.{desk, outcome};
 ghost use Rattle.reading.specs.Step.{takes, passed, traceStep};
 
@@ -19,7 +19,7 @@ pub(crate) fn trace_step(
 ) -> Step
     ensures { λ r. ⌜
         outcome (r .answer) (desk (r .next) (now (stacks .exit)) (now (counts .exit)))
-        ≡ traceStep (desk reading (now (stacks .entry)) (now (counts .entry))) (traceLineOf (now (line .entry)))
+        ≡ traceStep (desk reading (now (stacks .entry)) (now (counts .entry))) (meaningOf (reading .head .kinds) (now (line .entry)))
         ⌝ }
 {
     let read = trace_line(line);
@@ -33,7 +33,7 @@ pub(crate) fn trace_step(
                 pass(reading)
             }
         }
-        TraceLine::Skipped => pass(reading),
+        TraceLine::Escape => pass(reading),
         TraceLine::Refused(answer) => Step {
             answer,
             next: reading,

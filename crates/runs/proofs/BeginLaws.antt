@@ -19,6 +19,7 @@ use Rattle.lines.specs.OrderLine.{orderLineOf}
 use Rattle.lines.proofs.CaseLaws.{order-cases}
 use Rattle.reading.specs.declared.Reading.{Reading}
 use Rattle.reading.specs.Reading.{kindsNext, beginNext, traceNext, Desk, worldOf, Outcome, outcome}
+use Rattle.reading.specs.Meaning.{givenIn}
 use Rattle.reading.specs.Head.{orderOf, begun, opening, beginAt, orderStep}
 use Rattle.reading.specs.Step.{inTrace, linesMost, isTooMany, counted, stepOf}
 use Rattle.runs.specs.Input.{orderIn, kindsIn}
@@ -42,15 +43,19 @@ module _ (d : Desk) (said : List OrderLine) (h : Heading (d .reading) said) wher
   next = opened (orderOf v) w
 
   begins : orderOf v ≡ orderIn said → v .head .kinds ≡ kindsIn said → Headed d said Begin (openAnswer (orderIn said) w) (opening d)
+  unfolding givenIn
   begins order kinds = record {
     answer = ap (λ (o : Order). openAnswer o w) order;
     going = λ e f. absurd (true≢false f);
     begun = λ e f. subst (λ (x : Desk). Begun said (outcome answer x)) (sym (settled-done answer (begun (orderOf v) d) d e)) (record {
-      trace = refl;
       order = order;
       kinds = kinds;
-      history = history-opened (orderOf v) w next (record { answer = sym e; left = sym (settled-done answer next w e) });
-      skipped = h .skipped;
+      stands = record {
+        trace = refl;
+        history = history-opened (orderOf v) w next (record { answer = sym e; left = sym (settled-done answer next w e) });
+        tally = h .tally;
+        told = refl;
+      };
     });
   }
 
@@ -103,7 +108,7 @@ step-headed d line said h few =
     Answers = Headed d said (orderLineOf line) (orderAnswer (worldOf d) said (orderLineOf line))
 
     read : Heading (counted d .reading) said
-    read = record { stage = h .stage; six = h .six; kinds = h .kinds; reads = h .reads; skipped = h .skipped }
+    read = record { stage = h .stage; six = h .six; kinds = h .kinds; reads = h .reads; tally = h .tally }
 
     as-read : {o : Outcome} → Headed (counted d) said (orderLineOf line) (orderAnswer (worldOf d) said (orderLineOf line)) o → Answers o
     as-read x = record { answer = x .answer; going = x .going; begun = x .begun }

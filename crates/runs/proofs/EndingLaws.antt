@@ -10,27 +10,26 @@ use lib.Dec.{eqb, ltb, leb}
 use lib.ListN.{length, length-append}
 use borrow.Author.Tests.{ne-eqb, eqb-true, eqb-false, leb-true, leb-false}
 use Rattle.lists.specs.Members.{mem}
-use Rattle.lists.specs.Sums.{total}
-use Rattle.lists.specs.Tests.{firstOf, anyTo}
+use Rattle.lists.specs.Tests.{firstOf}
 use Rattle.lists.proofs.Cases.{cases, picked}
-use Rattle.cache.specs.Cache.{Given, ref, referred}
+use Rattle.cache.specs.Cache.{Given}
 use Rattle.order.specs.declared.Order.{Order}
-use Rattle.order.specs.Limits.{within, sizes, stackNeed, countNeed}
+use Rattle.order.specs.Limits.{within, stackNeed, countNeed}
 use Rattle.taking.specs.World.{World}
 use Rattle.taking.specs.Opening.{openAnswer, unopened}
+use Rattle.calls.proofs.AnswerLaws.{after-cases}
 use Rattle.lines.specs.declared.Kinds.{Kinds}
 use Rattle.lines.specs.declared.OrderLine.{OrderLine}
 use Rattle.lines.specs.declared.OrderLine.the-variants.{Bmin, Bmax, Smax, Ways, Room, Refs, Kinds as Counting, Begin, Refused as BadOrder}
-use Rattle.lines.specs.declared.TraceLine.{TraceLine}
-use Rattle.lines.specs.declared.TraceLine.the-variants.{Ref, Skipped, Refused as BadTrace}
-use Rattle.lines.specs.OrderLine.{orderLineOf, countsKind}
-use Rattle.lines.specs.TraceLine.{traceLineOf}
+use Rattle.lines.specs.OrderLine.{orderLineOf}
+use Rattle.reading.specs.Meaning.{Meaning, meaningOf, givenBy}
 use Rattle.reading.specs.Reading.{desk, start, Outcome}
 use Rattle.reading.specs.Step.{linesMost}
 use Rattle.reading.specs.Tables.{stackEntries, Allotted}
 use Rattle.reading.proofs.TableLaws.{opening-in-program}
-use Rattle.runs.specs.Input.{Runs, isBegin, orderIn, kindsIn, givenBy}
-use Rattle.runs.specs.Endings.{Ending, endsAt, listed, isFullAfter, traceAnswer, traceEnding, isInPlace, orderAnswer, inputEnding}
+use Rattle.runs.specs.Input.{Runs, isBegin, orderIn, kindsIn, meantIn}
+use Rattle.runs.specs.Endings.{Ending, endsAt, listed, traceAnswer, traceEnding, isInPlace, orderAnswer, inputEnding}
+use Rattle.runs.proofs.MeaningLaws.{meaning-cases}
 use Rattle.runs.proofs.ProgramLaws.{program-answer, program-line}
 
 -- ---- the answer to a line that is read, over the tables of w: a number listed, or 3 where the tables are not those of the program; and not 26
@@ -43,11 +42,6 @@ record Read (w : World) (n : ℕ) : Type 0 where
 -- not 3 over any tables
 read-of : (w : World) (n : ℕ) → mem n (3 ∷ listed) ≡ true → (n ≡ 26 → ⊥) → (n ≡ 3 → ⊥) → Read w n
 read-of w n m many three = record { number = m; read = many; enough = λ a. three }
-
-five-or-six : (w : World) (reached full : Bool) → Read w (firstOf ((reached, 5) ∷ (full, 6) ∷ []))
-five-or-six w true full = read-of w 5 refl (λ z. omega arith) (λ z. omega arith)
-five-or-six w false true = read-of w 6 refl (λ z. omega arith) (λ z. omega arith)
-five-or-six w false false = read-of w 0 refl (λ z. omega arith) (λ z. omega arith)
 
 one-to-three : (limits stacks counts : Bool)
     → let n = firstOf ((limits, 1) ∷ (stacks, 2) ∷ (counts, 3) ∷ []) in (mem n (3 ∷ listed) ≡ true) × (n ≡ 26 → ⊥)
@@ -70,13 +64,16 @@ open-read o w =
       enough = λ a z. one-or-two (not (within o)) (ltb stackEntries (stackNeed o)) (sym (opening-in-program o w a) ∙ z);
     }
 
-trace-read : (w : World) (o : Order) (kinds : Kinds) (past : List Given) (t : TraceLine) → Read w (traceAnswer o kinds past t)
-trace-read w o kinds past (Ref kind a) =
-    picked (Read w) (countsKind kinds kind)
-    (λ e. five-or-six w (eqb (total referred past) (o .refs)) (anyTo (sizes o) (λ (k : ℕ). isFullAfter o past (ref (a .0)) (o .bmin .0 + k))))
-    (λ e. read-of w 0 refl (λ z. omega arith) (λ z. omega arith))
-trace-read w o kinds past Skipped = read-of w 0 refl (λ z. omega arith) (λ z. omega arith)
-trace-read w o kinds past (BadTrace n) = read-of w 11 refl (λ z. omega arith) (λ z. omega arith)
+trace-read : (w : World) (o : Order) (past : List Given) (kinds : Kinds) (line : List ℕ) → Read w (traceAnswer o past (meaningOf kinds line))
+trace-read w o past =
+    meaning-cases (λ (m : Meaning). Read w (traceAnswer o past m))
+    (after-cases (Read w)
+    (read-of w 0 refl (λ z. omega arith) (λ z. omega arith))
+    (read-of w 5 refl (λ z. omega arith) (λ z. omega arith))
+    (read-of w 6 refl (λ z. omega arith) (λ z. omega arith))
+    o past)
+    (read-of w 0 refl (λ z. omega arith) (λ z. omega arith))
+    (read-of w 11 refl (λ z. omega arith) (λ z. omega arith))
 
 order-read : (w : World) (said : List OrderLine) (l : OrderLine) → Read w (orderAnswer w said l)
 order-read w said l =
@@ -128,12 +125,12 @@ fits-refused w n answer line r ne h =
     record { number = r .number; enough = r .enough; few = λ z. absurd (r .read z); many = λ z. inr (ne, r .read, h) }
 
 trace-fits : (w : World) (lines : List (List ℕ)) (o : Order) (kinds : Kinds) (past : List Given) (n : ℕ) → n ≤ linesMost
-    → Fits w (n + length lines) (traceEnding o kinds past n lines)
-unfolding traceEnding
+    → Fits w (n + length lines) (traceEnding o past n (meantIn kinds lines))
+unfolding traceEnding meantIn
 trace-fits w [] o kinds past n h = fits-done w (n + 0) (omega arith) (endsAt 0 n) refl (λ z. omega arith) (λ z. omega arith)
 trace-fits w (line ∷ more) o kinds past n h =
-    let answer = traceAnswer o kinds past (traceLineOf line) in
-    let rest = trace-fits w more o kinds (past ++ givenBy kinds (traceLineOf line)) (n + 1) in
+    let answer = traceAnswer o past (meaningOf kinds line) in
+    let rest = trace-fits w more o kinds (past ++ givenBy (meaningOf kinds line)) (n + 1) in
     cases (leb linesMost n)
     (λ t.
     let last = leb-true linesMost n t in
@@ -143,7 +140,7 @@ trace-fits w (line ∷ more) o kinds past n h =
     simp t
     (picked (Fits w (n + suc (length more))) (eqb answer 0)
     (λ e. fits-same (omega arith) (rest (omega arith)))
-    (λ e. fits-refused w (n + suc (length more)) answer (n + 1) (trace-read w o kinds past (traceLineOf line)) (eqb-false answer 0 e) (omega arith))))
+    (λ e. fits-refused w (n + suc (length more)) answer (n + 1) (trace-read w o past kinds line) (eqb-false answer 0 e) (omega arith))))
 
 input-fits : (lines : List (List ℕ)) (w : World) (said : List OrderLine) → length said ≤ 8
     → Fits w (length said + length lines) (inputEnding w said lines)

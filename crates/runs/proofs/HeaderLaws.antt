@@ -18,9 +18,9 @@ use Rattle.reading.specs.declared.Reading.{Reading}
 use Rattle.reading.specs.declared.Step.{Step}
 use Rattle.reading.specs.Reading.{kindsNext, beginNext, Desk, worldOf, Outcome, answered, stays}
 use Rattle.reading.specs.Head.{withNumber, numberAt, kindsAt}
-use Rattle.reading.specs.Step.{inTrace}
+use Rattle.reading.specs.Meaning.{talliedIn}
 use Rattle.runs.specs.Input.{isBegin, orderIn, kindsIn}
-use Rattle.calls.proofs.HistoryLaws.{History}
+use Rattle.runs.proofs.MeaningLaws.{Stands}
 
 -- the lines of an order's six numbers and of its kinds
 abbrev pub saidBy : Head → List OrderLine
@@ -40,15 +40,13 @@ pub record Heading (v : Reading) (said : List OrderLine) : Type 0 where
   pub six : length (v .head .numbers) ≡ 6
   pub kinds : v .stage ≤ kindsNext → v .head .kinds ≡ All
   pub reads : said ≡ take (v .stage) (saidBy (v .head))
-  pub skipped : v .tally .skipped ≡ 0
+  pub tally : v .tally ≡ talliedIn []
 
--- the begin line is done: the trace begins, and nothing is taken or skipped yet
+-- the begin line is done: the trace begins, and none of its lines has come
 pub record Begun (said : List OrderLine) (o : Outcome) : Type 0 where
-  pub trace : inTrace (o .left .reading) ≡ true
   pub order : o .left .reading .opened .order ≡ orderIn said
   pub kinds : o .left .reading .head .kinds ≡ kindsIn said
-  pub history : History (worldOf (o .left)) []
-  pub skipped : o .left .reading .tally .skipped ≡ 0
+  pub stands : Stands (o .left) []
 
 -- the answer to the line l is n
 pub record Headed (d : Desk) (said : List OrderLine) (l : OrderLine) (n : ℕ) (o : Outcome) : Type 0 where
@@ -98,7 +96,7 @@ module _ (d : Desk) (said : List OrderLine) (h : Heading (d .reading) said) wher
             reads = ap (λ (s : List OrderLine). s ++ (l ∷ [])) (so-far place at)
                 ∙ six-cases (λ (x : List ℕ). Placed place n l (headOf x (v .head .kinds)))
                 (λ a b c d e f. placed a b c d e f (v .head .kinds)) (v .head .numbers) (h .six);
-            skipped = h .skipped;
+            tally = h .tally;
           },
           refl,
         );
@@ -120,7 +118,7 @@ module _ (d : Desk) (said : List OrderLine) (h : Heading (d .reading) said) wher
             six = h .six;
             kinds = λ g. absurd (omega arith);
             reads = ap (λ (s : List OrderLine). s ++ (Counting k ∷ [])) (so-far kindsNext at);
-            skipped = h .skipped;
+            tally = h .tally;
           },
           refl,
         );

@@ -9,7 +9,8 @@ use Rattle.taking.specs.Opening.{unopened}
 use Rattle.lines.specs.Bytes.{text}
 use Rattle.lines.specs.TraceLine.{inAddress, inGap, atGap, atLabel, traceLineOf}
 use Rattle.lines.specs.OrderLine.{startsWith, allDecimal, isNumber, decimal, numbered, whole, orderLineOf}
-use Rattle.runs.specs.Input.{headerOf, traceOf, givenIn, givenOf}
+use Rattle.reading.specs.Meaning.{givenIn}
+use Rattle.runs.specs.Input.{headerOf, traceOf, meantIn, givenOf}
 use Rattle.runs.specs.Endings.{Ending, endsAt, traceEnding, inputEnding}
 
 -- the order's lines, of that room and those refs
@@ -41,7 +42,7 @@ table =
     ∷ []
 
 pub input-examples : map (λ e. inputEnding (unopened (replicate 8 0) (replicate 4 0)) [] (e .0)) table ≡ map (λ e. e .1) table
-unfolding inputEnding traceEnding blockOf anyTo allLe traceLineOf atLabel atGap inGap inAddress
+unfolding inputEnding traceEnding meantIn blockOf anyTo allLe traceLineOf atLabel atGap inGap inAddress
     orderLineOf numbered whole startsWith isNumber allDecimal decimal
 input-examples = refl
 
@@ -50,5 +51,5 @@ counting kinds = order (text "room=8") (text "refs=9") ++ kinds ++ begin ++ trac
 
 pub reference-examples : map givenOf (counting [] ∷ counting (text "kinds=data" ∷ []) ∷ [])
     ≡ map (map ref) ((0 ∷ 16 ∷ 32 ∷ 0 ∷ 20 ∷ 64 ∷ 0 ∷ 32 ∷ []) ∷ (64 ∷ []) ∷ [])
-unfolding headerOf traceOf givenIn traceLineOf atLabel atGap inGap inAddress orderLineOf numbered whole startsWith isNumber allDecimal decimal
+unfolding headerOf traceOf meantIn givenIn traceLineOf atLabel atGap inGap inAddress orderLineOf numbered whole startsWith isNumber allDecimal decimal
 reference-examples = refl

@@ -3,6 +3,7 @@ pub mod EndingLaws
 pub mod HeaderLaws
 pub mod InputExamples
 pub mod InputLaws
+pub mod MeaningLaws
 pub mod NumberLaws
 pub mod ProgramLaws
 pub mod TraceLaws

@@ -10,20 +10,19 @@ use borrow.Author.Tests.{leb-true, leb-false}
 use Rattle.lists.specs.Tests.{settled}
 use Rattle.lists.proofs.TestLaws.{settled-not}
 use Rattle.lists.proofs.Cases.{picked, both-picked}
-use Rattle.cache.specs.Cache.{Given, ref}
+use Rattle.cache.specs.Cache.{Given}
 use Rattle.taking.specs.Opening.{openAnswer}
 use Rattle.taking.specs.Taking.{takeAnswer, taken}
 use Rattle.lines.specs.declared.Kinds.{Kinds}
 use Rattle.lines.specs.declared.Kinds.the-variants.{All, Fetch, Data}
 use Rattle.lines.specs.declared.OrderLine.{OrderLine}
-use Rattle.lines.specs.declared.TraceLine.{TraceLine}
-use Rattle.lines.specs.OrderLine.{orderLineOf, countsKind}
-use Rattle.lines.specs.TraceLine.{traceLineOf}
-use Rattle.lines.proofs.CaseLaws.{order-cases, trace-cases}
+use Rattle.lines.specs.OrderLine.{orderLineOf}
+use Rattle.lines.proofs.CaseLaws.{order-cases}
 use Rattle.reading.specs.declared.Reading.{Reading}
 use Rattle.reading.specs.declared.Step.{Step}
 use Rattle.reading.specs.Reading.{kindsNext, beginNext, withLines, withTally, oneSkipped}
 use Rattle.reading.specs.Reading.{Desk, worldOf, withWorld, withReading, Outcome, outcome, answered, stays}
+use Rattle.reading.specs.Meaning.{Meaning, gives, skips, fails, meaningOf}
 use Rattle.reading.specs.Head.{numberAt, kindsAt, orderOf, begun, opening, beginAt, orderStep}
 use Rattle.reading.specs.Step.{takes, passed, traceStep, inTrace, linesMost, isTooMany, counted, stepOf, Steps}
 
@@ -72,12 +71,10 @@ module _ (d : Desk) where
   passed-numbered : Numbered d (stays (passed (d .reading)) d)
   passed-numbered = goes-on (withTally (oneSkipped (d .reading .tally)) (d .reading)) refl
 
-  trace-numbered : (line : List ℕ) → Numbered d (traceStep d (traceLineOf line))
-  trace-numbered =
-      trace-cases (λ (t : TraceLine). Numbered d (traceStep d t))
-      (λ kind a. picked (Numbered d) (countsKind (d .reading .head .kinds) kind) (λ e. taking-numbered (ref (a .0))) (λ e. passed-numbered))
-      passed-numbered
-      (refuses 11)
+  trace-numbered : (m : Meaning) → Numbered d (traceStep d m)
+  trace-numbered (gives g) = taking-numbered g
+  trace-numbered skips = passed-numbered
+  trace-numbered (fails n) = refuses n
 
 -- a step: the line's number is one more than were read before, and there is a number left for a line that is done
 pub record Reported (d : Desk) (o : Outcome) : Type 0 where
@@ -92,7 +89,7 @@ step-reported d line =
     let many = leb-true linesMost (d .reading .lines) e in
     record { number = λ h. omega arith; room = λ z. absurd (omega arith); kept = λ ne. refl })
     (λ e. picked (Reported d) (inTrace (d .reading))
-    (λ f. read e (traceStep (counted d) (traceLineOf line)) (trace-numbered (counted d) line))
+    (λ f. let m = meaningOf (d .reading .head .kinds) line in read e (traceStep (counted d) m) (trace-numbered (counted d) m))
     (λ f. read e (orderStep (counted d) (orderLineOf line)) (order-numbered (counted d) line)))
   where
     read : isTooMany (d .reading) ≡ false → (o : Outcome) → Numbered (counted d) o → Reported d o

@@ -23,25 +23,26 @@ use Rattle.lines.specs.declared.OrderLine.{OrderLine}
 use Rattle.lines.specs.OrderLine.{orderLineOf}
 use Rattle.reading.specs.declared.Reading.{Reading}
 use Rattle.reading.specs.declared.Step.{Step}
+use Rattle.reading.specs.declared.Tally.{Tally}
 use Rattle.reading.specs.Reading.{traceNext, start, Desk, desk, worldOf, Outcome, stays}
+use Rattle.reading.specs.Meaning.{givenIn, talliedIn}
 use Rattle.reading.specs.Step.{inTrace, linesMost, stepOf}
-use Rattle.runs.specs.Input.{Runs, runFrom, isBegin, headerOf, traceOf, orderIn, kindsIn, givenIn, givenOf}
+use Rattle.runs.specs.Input.{Runs, runFrom, isBegin, headerOf, traceOf, orderIn, kindsIn, meantIn, meantOf, givenOf}
 use Rattle.runs.specs.Endings.{Ending, endsAt, traceEnding, inputEnding}
-use Rattle.calls.proofs.HistoryLaws.{History}
 use Rattle.runs.proofs.InputLaws.{run-determined}
 use Rattle.calls.proofs.AnswerLaws.{count-is}
 use Rattle.calls.proofs.QuestionLaws.{misses-are}
+use Rattle.runs.proofs.MeaningLaws.{Stands, told-in-all, meant-length}
 use Rattle.runs.proofs.NumberLaws.{step-reported}
 use Rattle.runs.proofs.HeaderLaws.{Heading, Begun, few-said}
 use Rattle.runs.proofs.BeginLaws.{step-headed}
-use Rattle.runs.proofs.TraceLaws.{orderOn, kindsOn, toldOn, run-follows}
+use Rattle.runs.proofs.TraceLaws.{orderOn, kindsOn, run-follows}
 
 -- ---- where the lines before them read as `said`
 
 record Serves (said : List OrderLine) (lines : List (List ℕ)) (o : Outcome) : Type 0 where
   order : orderOn (o .left) ≡ orderIn (said ++ headerOf lines)
-  history : History (worldOf (o .left)) (givenIn (kindsIn (said ++ headerOf lines)) (traceOf lines))
-  told : toldOn (o .left) ≡ length (traceOf lines)
+  stands : Stands (o .left) (meantIn (kindsIn (said ++ headerOf lines)) (traceOf lines))
 
 record Leads (said : List OrderLine) (lines : List (List ℕ)) (e : Ending) (o : Outcome) : Type 0 where
   answer : o .answer ≡ e .answer
@@ -51,15 +52,15 @@ record Leads (said : List OrderLine) (lines : List (List ℕ)) (e : Ending) (o :
 module _ (line : List ℕ) (more : List (List ℕ)) (said : List OrderLine) (o : Outcome) where
   -- after the begin line
   begins : isBegin (orderLineOf line) ≡ true → Begun said o → o .left .reading .lines ≡ length said + 1 → o .left .reading .lines ≤ linesMost
-      → Leads said (line ∷ more) (traceEnding (orderIn said) (kindsIn said) [] (length said + 1) more) (runFrom (o .left) more)
-  unfolding headerOf traceOf
+      → Leads said (line ∷ more) (traceEnding (orderIn said) [] (length said + 1) (meantIn (kindsIn said) more)) (runFrom (o .left) more)
+  unfolding headerOf traceOf givenIn
   begins b g number few =
-      let f = run-follows more (o .left) [] (g .trace) (g .history) (omega (arith, g .skipped)) few in
+      let f = run-follows more (o .left) [] (g .stands) (omega arith) few in
       let n = o .left .reading .lines in
-      let here = traceEnding (orderIn said) (kindsIn said) [] (length said + 1) more in
-      let same : traceEnding (orderOn (o .left)) (kindsOn (o .left)) [] n more ≡ here =
-      ap₂ (λ (x : Order) (k : Kinds). traceEnding x k [] n more) (g .order) (g .kinds)
-      ∙ ap (λ (n : ℕ). traceEnding (orderIn said) (kindsIn said) [] n more) number in
+      let here = traceEnding (orderIn said) [] (length said + 1) (meantIn (kindsIn said) more) in
+      let same : traceEnding (orderOn (o .left)) [] n (meantIn (kindsOn (o .left)) more) ≡ here =
+      ap₂ (λ (x : Order) (k : Kinds). traceEnding x [] n (meantIn k more)) (g .order) (g .kinds)
+      ∙ ap (λ (n : ℕ). traceEnding (orderIn said) [] n (meantIn (kindsIn said) more)) number in
       record {
         answer = f .answer ∙ ap (λ (e : Ending). e .answer) same;
         line = f .line ∙ ap (λ (e : Ending). e .line) same;
@@ -67,8 +68,7 @@ module _ (line : List ℕ) (more : List (List ℕ)) (said : List OrderLine) (o :
             let e = f .end z in
             record {
               order = rw (b, append-nil said) (e .same-order ∙ g .order);
-              history = rw (b, append-nil said, ← g .kinds) (e .history);
-              told = rw b (omega (arith, e .told, count-is (worldOf (o .left)) [] (g .history), g .skipped));
+              stands = rw (b, append-nil said, ← g .kinds) (e .stands);
             };
       }
 
@@ -82,8 +82,7 @@ module _ (line : List ℕ) (more : List (List ℕ)) (said : List OrderLine) (o :
         let e = f .end z in
         record {
           order = rw (b, ← append-assoc said (orderLineOf line ∷ []) (headerOf more)) (e .order);
-          history = rw (b, ← append-assoc said (orderLineOf line ∷ []) (headerOf more)) (e .history);
-          told = rw b (e .told);
+          stands = rw (b, ← append-assoc said (orderLineOf line ∷ []) (headerOf more)) (e .stands);
         };
   }
 
@@ -105,7 +104,7 @@ run-leads (line ∷ more) d said h counted =
     let rest = run-leads more (o .left) (said ++ (l ∷ [])) in
     subst
     (λ (n : ℕ). Leads said (line ∷ more)
-    (cond (eqb n 0) (cond (isBegin l) (traceEnding (orderIn said) (kindsIn said) [] (length said + 1) more) then) (endsAt n (length said + 1)))
+    (cond (eqb n 0) (cond (isBegin l) (traceEnding (orderIn said) [] (length said + 1) (meantIn (kindsIn said) more)) then) (endsAt n (length said + 1)))
     (runFrom d (line ∷ more)))
     (s .answer)
     (both-picked (Leads said (line ∷ more)) (eqb (o .answer) 0)
@@ -124,7 +123,7 @@ run-leads (line ∷ more) d said h counted =
 -- ---- from the start
 
 starts : Heading start []
-starts = record { stage = omega arith; six = refl; kinds = λ h. refl; reads = refl; skipped = refl }
+starts = record { stage = omega arith; six = refl; kinds = λ h. refl; reads = refl; tally = refl }
 
 -- of any run within the contracts
 module _ (st ct : List ℕ) (lines : List (List ℕ)) (o : Outcome) (run : Runs (desk start st ct) lines o) where
@@ -146,18 +145,26 @@ module _ (st ct : List ℕ) (lines : List (List ℕ)) (o : Outcome) (run : Runs 
 
     -- which is within its limits
     pub program-limits : All≤ (limits (o .left .reading .opened .order))
-    program-limits = leads .end done .history .fitted .fit .numbers
+    program-limits = leads .end done .stands .history .fitted .fit .numbers
 
     -- the misses given for each cache of that order are those of that one cache over what the lines give
     pub program-misses : (b s w : ℕ) → has (orderIn (headerOf lines)) b s w ≡ true
         → (q : Counted) → q ≡ missesOf (o .left .reading .opened) (o .left .counts) b s w
         → (q .answer ≡ 0) × (q .misses ≡ missesOver b s w (givenOf lines))
     program-misses b s w h q e =
-        misses-are (worldOf (o .left)) (givenOf lines) (leads .end done .history) b s w (subst (λ (x : Order). has x b s w ≡ true) (sym program-order) h) q e
+        misses-are (worldOf (o .left)) (givenOf lines) (leads .end done .stands .history) b s w
+        (subst (λ (x : Order). has x b s w ≡ true) (sym program-order) h) q e
 
-    -- `refs=` is how many references they are, and `skipped=` how many other lines the trace has
+    -- `refs=` is how many references they are, and the other counts are the tally of the lines
     pub program-refs : o .left .reading .opened .taken ≡ total referred (givenOf lines)
-    program-refs = count-is (worldOf (o .left)) (givenOf lines) (leads .end done .history)
+    program-refs = count-is (worldOf (o .left)) (givenOf lines) (leads .end done .stands .history)
 
+    pub program-tally : o .left .reading .tally ≡ talliedIn (meantOf lines)
+    program-tally = leads .end done .stands .tally
+
+    -- they add up to the lines of the trace
     pub program-skipped : o .left .reading .opened .taken + o .left .reading .tally .skipped ≡ length (traceOf lines)
-    program-skipped = leads .end done .told
+    program-skipped =
+        ap₂ (λ (refs : ℕ) (t : Tally). refs + t .skipped) program-refs program-tally
+        ∙ told-in-all (meantOf lines) (leads .end done .stands .told)
+        ∙ meant-length (kindsIn (headerOf lines)) (traceOf lines)

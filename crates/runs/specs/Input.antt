@@ -6,19 +6,17 @@ use mathlib.Core.Bool.{Bool, true, false, cond}
 use mathlib.Core.List.{List, [], _∷_, _++_}
 use lib.Dec.{eqb}
 use lib.ListN.{length, getD}
-use Rattle.cache.specs.Cache.{Given, ref}
+use Rattle.cache.specs.Cache.{Given}
 use Rattle.order.specs.declared.Order.{Order}
 use Rattle.lines.specs.Bytes.{longest}
 use Rattle.lines.specs.declared.Kinds.{Kinds}
 use Rattle.lines.specs.declared.Kinds.the-variants.{All}
 use Rattle.lines.specs.declared.OrderLine.{OrderLine}
 use Rattle.lines.specs.declared.OrderLine.the-variants.{Bmin, Bmax, Smax, Ways, Room, Refs, Kinds as Counting, Begin, Refused as BadOrder}
-use Rattle.lines.specs.declared.TraceLine.{TraceLine}
-use Rattle.lines.specs.declared.TraceLine.the-variants.{Ref, Skipped, Refused as BadTrace}
-use Rattle.lines.specs.OrderLine.{orderLineOf, countsKind}
-use Rattle.lines.specs.TraceLine.{traceLineOf}
+use Rattle.lines.specs.OrderLine.{orderLineOf}
 use Rattle.reading.specs.declared.Reading.{Reading}
 use Rattle.reading.specs.declared.Step.{Step}
+use Rattle.reading.specs.Meaning.{Meaning, meaningOf, givenIn}
 use Rattle.reading.specs.Reading.{Desk, Outcome, outcome, stays}
 use Rattle.reading.specs.Step.{stepOf, longLine, ended, Steps}
 
@@ -103,17 +101,15 @@ kindsIn l = kindsGiven (getD l 6 Begin)
 
 -- ---- the trace
 
--- what a line gives: a reference of a kind that is counted
-abbrev pub givenBy : Kinds → TraceLine → List Given
-givenBy kinds (Ref kind a) = cond (countsKind kinds kind) (ref (a .0) ∷ []) []
-givenBy kinds Skipped = []
-givenBy kinds (BadTrace n) = []
-
--- what the lines give, in order
-unfoldable pub givenIn : Kinds → List (List ℕ) → List Given
-givenIn kinds [] = []
-givenIn kinds (line ∷ more) = givenBy kinds (traceLineOf line) ++ givenIn kinds more
+-- what each line comes to, under these kinds
+unfoldable pub meantIn : Kinds → List (List ℕ) → List Meaning
+meantIn kinds [] = []
+meantIn kinds (line ∷ more) = meaningOf kinds line ∷ meantIn kinds more
 
 -- of the whole input: the lines after the begin line, by the kinds of the lines before it
+abbrev pub meantOf : List (List ℕ) → List Meaning
+meantOf lines = meantIn (kindsIn (headerOf lines)) (traceOf lines)
+
+-- what they give, in order
 abbrev pub givenOf : List (List ℕ) → List Given
-givenOf lines = givenIn (kindsIn (headerOf lines)) (traceOf lines)
+givenOf lines = givenIn (meantOf lines)

@@ -12,8 +12,7 @@ pub(crate) fn table(reading: Reading, counts: &[u32]) -> bool {
     let mut out = [0u8; LINE_MOST];
     let opened = reading.opened;
     let order = opened.order;
-    let skipped = reading.tally.skipped;
-    let head = head_lines(opened.taken, skipped, &mut out);
+    let head = head_lines(opened.taken, reading.tally, &mut out);
     if !io::write_all(STDOUT_FILENO, &out[..head]) {
         return false;
     }

@@ -4,11 +4,11 @@ use mathlib.Core.Path.{_≡_, sym, ap, _∙_}
 use mathlib.Core.Bool.{false}
 use borrow.Author.Tests.{eq-eqb, ne-eqb}
 use Rattle.units.specs.Refusals.{tooManyLines}
-use Rattle.lines.specs.TraceLine.{traceLineOf}
 use Rattle.lines.specs.OrderLine.{orderLineOf}
 use Rattle.reading.specs.declared.Reading.{Reading}
 use Rattle.reading.specs.Reading.{traceNext, Desk, desk, answered, stays}
 use Rattle.reading.specs.Head.{orderStep}
+use Rattle.reading.specs.Meaning.{meaningOf}
 use Rattle.reading.specs.Step.{traceStep}
 use Rattle.reading.proofs.CountLaws.{Counts, one-too-many, one-more}
 use borrow.Author.Needs.{needs}
@@ -39,7 +39,7 @@ returns-2 c =
     let s = startOf (stage .before .before) in
     let f = more (stage .before) in
     simp (f .too-many, eq-eqb (s .args .self .stage) traceNext (f .stage ∙ stage .if2 .taken))
-    (called .trace-step .ensures ∙ ap (λ (r : Reading). traceStep (deskOf s r) (traceLineOf (s .args .line .now))) (f .next))
+    (called .trace-step .ensures ∙ ap (λ (r : Reading). traceStep (deskOf s r) (meaningOf (r .head .kinds) (s .args .line .now))) (f .next))
 
 returns-3 : tie.Need-returns-3
 returns-3 c =

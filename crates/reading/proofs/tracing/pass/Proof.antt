@@ -6,13 +6,13 @@ use borrow.Author.Needs.{needs}
 use Rattle.units.specs.Refusals.{done}
 use Rattle.reading.specs.declared.Reading.{Reading}
 use Rattle.reading.specs.declared.Step.{Step}
-use Rattle.reading.specs.Reading.{withTally, answered}
+use Rattle.reading.specs.Reading.{withTally, withSkipped, answered}
 use Rattle.reading.proofs.tracing.pass.Statement.{statement}
 use Rattle.reading.proofs.tracing.pass.Tie as tie
 
 -- done, with so many lines skipped
 abbrev passing : Reading → ℕ → Step
-passing v n = answered done (withTally (record { skipped = n }) v)
+passing v n = answered done (withTally (withSkipped n (v .tally)) v)
 
 returns : tie.Need-returns
 returns c =

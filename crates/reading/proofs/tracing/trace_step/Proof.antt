@@ -5,6 +5,7 @@ use Rattle.lines.specs.TraceLine.{traceLineOf}
 use Rattle.lines.proofs.SaidLaws.{trace-said-unique}
 use Rattle.reading.specs.declared.Step.{Step}
 use Rattle.reading.specs.Reading.{Desk, desk, Outcome, stays}
+use Rattle.reading.specs.Meaning.{Meaning, meant, meaningOf}
 use Rattle.reading.specs.Step.{traceStep}
 use Rattle.reading.proofs.StepLaws.{counted-step, passed-step}
 use borrow.Author.Needs.{needs}
@@ -18,12 +19,16 @@ startOf c = c .before .before .before .before
 abbrev deskAt : tie.After-trace-line → Desk
 deskAt c = let a = startOf c .args in desk (a .reading) (a .stacks .now) (a .counts .now)
 
+-- what a line that reads as t comes to
+abbrev meantAt : tie.After-trace-line → TraceLine → Meaning
+meantAt c = meant (startOf c .args .reading .head .kinds)
+
 -- as t: then what is handed back is the outcome of t
-told : (c : tie.After-trace-line) {t : TraceLine} {o : Outcome} → c .trace-line .result ≡ t → o ≡ traceStep (deskAt c) t
-    → o ≡ traceStep (deskAt c) (traceLineOf (startOf c .args .line .now))
+told : (c : tie.After-trace-line) {t : TraceLine} {o : Outcome} → c .trace-line .result ≡ t → o ≡ traceStep (deskAt c) (meantAt c t)
+    → o ≡ traceStep (deskAt c) (meaningOf (startOf c .args .reading .head .kinds) (startOf c .args .line .now))
 told c read e =
     let same = trace-said-unique (c .trace-line .result) (traceLineOf (startOf c .args .line .now)) (c .trace-line .ensures) in
-    e ∙ ap (traceStep (deskAt c)) (sym read ∙ same)
+    e ∙ ap (λ (t : TraceLine). traceStep (deskAt c) (meantAt c t)) (sym read ∙ same)
 
 returns : tie.Need-returns
 returns c =

@@ -13,10 +13,10 @@ use Rattle.sweep.proofs.output.table.Statement.{statement}
 use Rattle.sweep.proofs.output.table.Tie as tie
 
 abbrev Inv-loop : tie.InvT-loop
-Inv-loop counts out₀ opened order skipped head at₀ out at = length out ≡ lineMost
+Inv-loop counts out₀ opened order head at₀ out at = length out ≡ lineMost
 
 abbrev μ-loop : tie.MeasureT-loop
-μ-loop counts out₀ opened order skipped head at₀ out at = leftOf order at
+μ-loop counts out₀ opened order head at₀ out at = leftOf order at
 
 loop-less : tie.Need-loop-less Inv-loop μ-loop
 loop-less c =

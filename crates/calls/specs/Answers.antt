@@ -1,0 +1,26 @@
+-- What is answered after an opening, told by what was given alone: no state, and no table's contents (SCOPE, "Refusal numbers").
+-- Assumes nothing.
+use Prim.Native.Nat.{ℕ, _+_}
+use mathlib.Core.Bool.{Bool}
+use mathlib.Core.List.{List, [], _∷_, _++_}
+use lib.Dec.{eqb, ltb}
+use lib.ListN.{length}
+use Rattle.lists.specs.Sums.{total}
+use Rattle.lists.specs.Tests.{firstOf, anyTo}
+use Rattle.cache.specs.Cache.{Given, referred}
+use Rattle.cache.specs.Stack.{seenIn}
+use Rattle.units.specs.Refusals.{refsReached, stackFull}
+use Rattle.order.specs.declared.Order.{Order}
+use Rattle.order.specs.Limits.{sizes}
+
+-- the distinct blocks of 2^b bytes seen, once g comes after `past`, are more than room
+abbrev pub isFullAfter : Order → List Given → Given → ℕ → Bool
+isFullAfter o past g b = ltb (o .room) (length (seenIn b (past ++ (g ∷ []))))
+
+-- g after `past`: 5 where the references taken equal refs, 6 where at some block size the blocks seen would be more than room
+abbrev pub answerAfter : Order → List Given → Given → ℕ
+answerAfter o past g =
+    firstOf
+    ((eqb (total referred past) (o .refs), refsReached)
+    ∷ (anyTo (sizes o) (λ (k : ℕ). isFullAfter o past g (o .bmin .0 + k)), stackFull)
+    ∷ [])

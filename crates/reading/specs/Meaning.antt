@@ -1,0 +1,49 @@
+-- What a line of the trace comes to under the kinds that the order counts, and what such lines come to together: what they give, in order,
+-- and their tally (SCOPE, "Program, order lines and din lines"). Assumes nothing.
+use Prim.Native.Nat.{ℕ, _+_}
+use mathlib.Core.Bool.{cond}
+use mathlib.Core.List.{List, [], _∷_, _++_}
+use Rattle.lists.specs.Sums.{total}
+use Rattle.cache.specs.Cache.{Given, ref}
+use Rattle.lines.specs.declared.Kinds.{Kinds}
+use Rattle.lines.specs.declared.TraceLine.{TraceLine}
+use Rattle.lines.specs.declared.TraceLine.the-variants.{Ref, Escape, Refused as BadTrace}
+use Rattle.lines.specs.TraceLine.{traceLineOf}
+use Rattle.lines.specs.OrderLine.{countsKind}
+use Rattle.reading.specs.declared.Tally.{Tally}
+
+-- something is given, the line is skipped, or it is refused with a number
+pub data Meaning : Type 0 where
+  gives : Given → Meaning
+  skips : Meaning
+  fails : ℕ → Meaning
+
+-- a reference of a kind that is counted is given; any other, and an escape, is skipped
+abbrev pub meant : Kinds → TraceLine → Meaning
+meant kinds (Ref kind a) = cond (countsKind kinds kind) (gives (ref (a .0))) skips
+meant kinds Escape = skips
+meant kinds (BadTrace n) = fails n
+
+abbrev pub meaningOf : Kinds → List ℕ → Meaning
+meaningOf kinds line = meant kinds (traceLineOf line)
+
+-- ---- lines together
+
+abbrev pub givenBy : Meaning → List Given
+givenBy (gives g) = g ∷ []
+givenBy skips = []
+givenBy (fails n) = []
+
+-- what they give, in order
+unfoldable pub givenIn : List Meaning → List Given
+givenIn [] = []
+givenIn (m ∷ more) = givenBy m ++ givenIn more
+
+abbrev pub skippedBy : Meaning → ℕ
+skippedBy (gives g) = 0
+skippedBy skips = 1
+skippedBy (fails n) = 0
+
+-- how many of them are skipped
+abbrev pub talliedIn : List Meaning → Tally
+talliedIn l = record { skipped = total skippedBy l }
