@@ -101,8 +101,8 @@ module _ (w : World) (past : List Given) (i : History w past) where
     full-at-smallest = ap (isFullAfter o past g) (sym zeroth) ∙ sym (full-is 0 first-in)
 
     -- what a taking answers, told by what was given alone
-    pub answer-is : takeAnswer w g ≡ answerAfter o past g
-    answer-is =
+    pub answer-told : takeAnswer w g ≡ answerAfter o past g
+    answer-told =
         answer-by-sizes w g (i .fitted .fit)
         ∙ ap₂ (λ (full over : Bool). cond (eqb (w .state .taken) (o .refs)) 5 (cond full 6 (cond over 7 0))) full-all none-over
         ∙ ap (λ (n : ℕ). cond (eqb n (o .refs)) 5 (cond (anyTo (sizes o) (λ (k : ℕ). isFullAfter o past g (at k))) 6 0)) count-is

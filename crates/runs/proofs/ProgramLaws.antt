@@ -100,11 +100,12 @@ run-leads (line ∷ more) d said h counted =
     let few = few-said d said h in
     let s = step-headed d line said h (omega arith) in
     let number = step-reported d line .number (omega arith) in
+    let trace = traceEnding (orderIn said) [] (length said + 1) (meantIn (kindsIn said) more) in
     let then = inputEnding (worldOf d) (said ++ (l ∷ [])) more in
     let rest = run-leads more (o .left) (said ++ (l ∷ [])) in
     subst
     (λ (n : ℕ). Leads said (line ∷ more)
-    (cond (eqb n 0) (cond (isBegin l) (traceEnding (orderIn said) [] (length said + 1) (meantIn (kindsIn said) more)) then) (endsAt n (length said + 1)))
+    (cond (eqb n 0) (cond (isBegin l) trace then) (endsAt n (length said + 1)))
     (runFrom d (line ∷ more)))
     (s .answer)
     (both-picked (Leads said (line ∷ more)) (eqb (o .answer) 0)

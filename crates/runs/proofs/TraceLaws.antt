@@ -16,7 +16,7 @@ use Rattle.taking.specs.World.{World}
 use Rattle.taking.specs.Taking.{takeAnswer, taken}
 use Rattle.calls.proofs.HistoryLaws.{History, history-taken}
 use Rattle.calls.specs.Answers.{answerAfter}
-use Rattle.calls.proofs.AnswerLaws.{answer-is}
+use Rattle.calls.proofs.AnswerLaws.{answer-told}
 use Rattle.lines.specs.declared.Kinds.{Kinds}
 use Rattle.reading.specs.declared.Step.{Step}
 use Rattle.reading.specs.Meaning.{Meaning, gives, skips, meaningOf, givenBy, givenIn}
@@ -69,7 +69,7 @@ module _ (d : Desk) (past : List Meaning) (h : Stands d past) where
 
   gives-traced : (g : Given) → Traced d past (gives g) (answerAfter o (givenIn past) g) (takes d g)
   gives-traced g = record {
-    answer = answer-is w (givenIn past) (h .history) g;
+    answer = answer-told w (givenIn past) (h .history) g;
     next = λ e.
         subst (λ (x : Desk). Followed d past (gives g) (outcome (takeAnswer w g) x))
         (sym (settled-done (takeAnswer w g) (withWorld (taken w g) d) d e))
