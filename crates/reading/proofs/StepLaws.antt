@@ -25,11 +25,11 @@ use Rattle.lines.specs.OrderLine.{orderLineOf, countsKind}
 use Rattle.reading.specs.Reading.{kindsNext, beginNext, traceNext, withStage, withReading, worldOf, withWorld}
 use Rattle.reading.specs.Reading.{Desk, desk, Outcome, outcome, answered, stays}
 use Rattle.reading.specs.Head.{begun, beginAt, orderOf, opening}
-use Rattle.reading.specs.Meaning.{meant}
-use Rattle.reading.specs.Step.{takes, passed, traceStep, inTrace, isTooMany, stepOf, longLine}
+use Rattle.reading.specs.Meaning.{gives, skips, fails, meant}
+use Rattle.reading.specs.Step.{traceStep, inTrace, isTooMany, stepOf, longLine}
 
 -- a taking: the world handed back goes into the next state
-pub taken-outcome : (d : Desk) (g : Given) (n : ℕ) (w : World) → Takes (worldOf d) g n w → outcome n (withWorld w d) ≡ takes d g
+pub taken-outcome : (d : Desk) (g : Given) (n : ℕ) (w : World) → Takes (worldOf d) g n w → outcome n (withWorld w d) ≡ traceStep d (gives g)
 taken-outcome d g n w t =
     ap₂ outcome (t .answer)
     (ap (λ (x : World). withWorld x d) (t .left)
@@ -80,12 +80,16 @@ begin-out-of-place d early late = simp (ne-eqb (d .reading .stage) kindsNext ear
 
 -- a reference, by whether its kind is counted
 pub counted-step : (d : Desk) (kind : Kind) (a : Addr) → countsKind (d .reading .head .kinds) kind ≡ true
-    → takes d (ref (a .0)) ≡ traceStep d (meant (d .reading .head .kinds) (Ref kind a))
+    → traceStep d (gives (ref (a .0))) ≡ traceStep d (meant (d .reading .head .kinds) (Ref kind a))
 counted-step d kind a e = simp e
 
 pub passed-step : (d : Desk) (kind : Kind) (a : Addr) → countsKind (d .reading .head .kinds) kind ≡ false
-    → stays (passed (d .reading)) d ≡ traceStep d (meant (d .reading .head .kinds) (Ref kind a))
+    → traceStep d skips ≡ traceStep d (meant (d .reading .head .kinds) (Ref kind a))
 passed-step d kind a e = simp e
+
+-- a line that fails leaves all as it was
+pub failed-step : (d : Desk) (n : ℕ) → stays (answered n (d .reading)) d ≡ traceStep d (fails n)
+failed-step d n = cases (eqb n 0) (λ e. simp e) (λ e. simp e)
 
 -- a line longer than the buffer: `long_line` answers as `step` would, whatever the line says
 pub long-line-is-step : (d : Desk) (line : List ℕ) → longest < length line → stays (longLine (d .reading)) d ≡ stepOf d line

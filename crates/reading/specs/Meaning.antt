@@ -11,6 +11,7 @@ use Rattle.lines.specs.declared.TraceLine.the-variants.{Ref, Escape, Refused as
 use Rattle.lines.specs.TraceLine.{traceLineOf}
 use Rattle.lines.specs.OrderLine.{countsKind}
 use Rattle.reading.specs.declared.Tally.{Tally}
+use Rattle.reading.specs.Reading.{oneSkipped}
 
 -- something is given, the line is skipped, or it is refused with a number
 pub data Meaning : Type 0 where
@@ -26,6 +27,12 @@ meant kinds (BadTrace n) = fails n
 
 abbrev pub meaningOf : Kinds → List ℕ → Meaning
 meaningOf kinds line = meant kinds (traceLineOf line)
+
+-- one line more in the tally
+abbrev pub tallied : Meaning → Tally → Tally
+tallied (gives g) t = t
+tallied skips t = oneSkipped t
+tallied (fails n) t = t
 
 -- ---- lines together
 

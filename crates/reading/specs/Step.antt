@@ -5,32 +5,35 @@ use mathlib.Core.Path.{_≡_}
 use mathlib.Core.Bool.{Bool, cond}
 use mathlib.Core.List.{List}
 use lib.Dec.{eqb, leb}
+use Rattle.lists.specs.Runs.{after}
 use Rattle.lists.specs.Tests.{settled}
-use Rattle.cache.specs.Cache.{Given}
 use Rattle.units.specs.Refusals.{done, badOrderLine, badTraceLine, tooManyLines}
+use Rattle.taking.specs.World.{World}
 use Rattle.taking.specs.Taking.{takeAnswer, taken}
 use Rattle.lines.specs.OrderLine.{orderLineOf}
 use Rattle.reading.specs.declared.Reading.{Reading}
 use Rattle.reading.specs.declared.Step.{Step}
-use Rattle.reading.specs.Reading.{traceNext, withLines, withTally, oneSkipped}
+use Rattle.reading.specs.Reading.{traceNext, withLines, withTally}
 use Rattle.reading.specs.Reading.{Desk, withReading, worldOf, withWorld, Outcome, outcome, answered, stays}
 use Rattle.reading.specs.Head.{orderStep}
-use Rattle.reading.specs.Meaning.{Meaning, gives, skips, fails, meaningOf}
+use Rattle.reading.specs.Meaning.{Meaning, gives, skips, fails, meaningOf, tallied, givenBy}
 
 -- ---- a line of the trace
 
--- what is given is taken
-abbrev pub takes : Desk → Given → Outcome
-takes d g = let n = takeAnswer (worldOf d) g in outcome n (settled n (withWorld (taken (worldOf d) g) d) d)
+-- the answer, by what the line comes to
+abbrev pub lineAnswer : World → Meaning → ℕ
+lineAnswer w (gives g) = takeAnswer w g
+lineAnswer w skips = done
+lineAnswer w (fails n) = n
 
--- a line that is skipped is only counted
-abbrev pub passed : Reading → Step
-passed v = answered done (withTally (oneSkipped (v .tally)) v)
+-- done: what it gives is taken, and the line is tallied
+abbrev pub followed : Desk → Meaning → Desk
+followed d m =
+    let new = withWorld (after taken (worldOf d) (givenBy m)) d in
+    withReading (withTally (tallied m (d .reading .tally)) (new .reading)) new
 
 abbrev pub traceStep : Desk → Meaning → Outcome
-traceStep d (gives g) = takes d g
-traceStep d skips = stays (passed (d .reading)) d
-traceStep d (fails n) = stays (answered n (d .reading)) d
+traceStep d m = let n = lineAnswer (worldOf d) m in outcome n (settled n (followed d m) d)
 
 -- ---- any line
 

@@ -7,9 +7,10 @@ use units::Addr;
 use units::refusal;
 ghost use mathlib.Core.Path.{_≡_};
 ghost use Rattle.cache.specs.Cache.{ref};
-ghost use Rattle.reading.specs.Meaning.{meaningOf};
-ghost use Rattle.reading.specs.Reading.{desk, outcome};
-ghost use Rattle.reading.specs.Step.{takes, passed, traceStep};
+ghost use Rattle.units.specs.Refusals.{done};
+ghost use Rattle.reading.specs.Meaning.{gives, skips, meaningOf, tallied};
+ghost use Rattle.reading.specs.Reading.{desk, outcome, answered, withTally};
+ghost use Rattle.reading.specs.Step.{traceStep};
 
 pub(crate) fn trace_step(
     reading: Reading,
@@ -43,7 +44,7 @@ pub(crate) fn trace_step(
 
 // The line is skipped.
 fn pass(reading: Reading) -> Step
-    ensures { λ r. ⌜ r ≡ passed reading ⌝ }
+    ensures { λ r. ⌜ r ≡ answered done (withTally (tallied skips (reading .tally)) reading) ⌝ }
 {
     let mut next = reading;
     let skipped = reading.tally.skipped;
@@ -62,7 +63,7 @@ fn pass(reading: Reading) -> Step
 fn take(reading: Reading, a: Addr, stacks: &mut [u32], counts: &mut [u32]) -> Step
     ensures { λ r. ⌜
         outcome (r .answer) (desk (r .next) (now (stacks .exit)) (now (counts .exit)))
-        ≡ takes (desk reading (now (stacks .entry)) (now (counts .entry))) (ref (a .0))
+        ≡ traceStep (desk reading (now (stacks .entry)) (now (counts .entry))) (gives (ref (a .0)))
         ⌝ }
 {
     let mut next = reading;

@@ -16,8 +16,8 @@ use Rattle.lines.specs.declared.TraceLine.{TraceLine}
 use Rattle.lines.specs.OrderLine.{countsKind}
 use Rattle.lines.proofs.CaseLaws.{trace-cases}
 use Rattle.reading.specs.declared.Tally.{Tally}
-use Rattle.reading.specs.Meaning.{Meaning, gives, skips, fails, meant, meaningOf, givenBy, givenIn, skippedBy, talliedIn}
-use Rattle.reading.specs.Reading.{withSkipped, oneSkipped, Desk, worldOf}
+use Rattle.reading.specs.Meaning.{Meaning, gives, skips, fails, meant, meaningOf, tallied, givenBy, givenIn, skippedBy, talliedIn}
+use Rattle.reading.specs.Reading.{withSkipped, Desk, worldOf}
 use Rattle.reading.specs.Step.{inTrace, linesMost}
 use Rattle.runs.specs.Input.{meantIn}
 use Rattle.calls.proofs.HistoryLaws.{History}
@@ -54,35 +54,33 @@ skipped-few (gives g ∷ l) = omega (arith, skipped-few l)
 skipped-few (skips ∷ l) = omega (arith, skipped-few l)
 skipped-few (fails n ∷ l) = omega (arith, skipped-few l)
 
--- so that the count never stops short
-pub tally-skipped : (past : List Meaning) → length past < linesMost → oneSkipped (talliedIn past) ≡ talliedIn (past ++ (skips ∷ []))
-tally-skipped past fits =
+-- one more is counted, for the count never stops short
+pub tally-more : (past : List Meaning) (m : Meaning) → length past < linesMost → tallied m (talliedIn past) ≡ talliedIn (past ++ (m ∷ []))
+tally-more past (gives g) fits =
+    let n : total skippedBy past ≡ total skippedBy (past ++ (gives g ∷ [])) = omega (arith, total-append skippedBy past (gives g ∷ [])) in
+    ap (λ (n : ℕ). withSkipped n (talliedIn past)) n
+tally-more past skips fits =
     let n : min (total skippedBy past + 1) 4294967295 ≡ total skippedBy (past ++ (skips ∷ [])) =
     omega (arith, skipped-few past, total-append skippedBy past (skips ∷ [])) in
     ap (λ (n : ℕ). withSkipped n (talliedIn past)) n
-
-pub tally-given : (past : List Meaning) (g : Given) → talliedIn past ≡ talliedIn (past ++ (gives g ∷ []))
-tally-given past g =
-    let n : total skippedBy past ≡ total skippedBy (past ++ (gives g ∷ [])) = omega (arith, total-append skippedBy past (gives g ∷ [])) in
+tally-more past (fails k) fits =
+    let n : total skippedBy past ≡ total skippedBy (past ++ (fails k ∷ [])) = omega (arith, total-append skippedBy past (fails k ∷ [])) in
     ap (λ (n : ℕ). withSkipped n (talliedIn past)) n
 
 -- ---- each is told once: it is a reference, or it is skipped
 
-abbrev toldBy : Meaning → ℕ
+abbrev pub toldBy : Meaning → ℕ
 toldBy m = total referred (givenBy m) + skippedBy m
 
 -- every one of them is
 abbrev pub AllTold : List Meaning → Type 0
 AllTold l = total toldBy l ≡ length l
 
-told-more : (past : List Meaning) (m : Meaning) → toldBy m ≡ 1 → AllTold past → AllTold (past ++ (m ∷ []))
+pub told-more : (past : List Meaning) (m : Meaning) → toldBy m ≡ 1 → AllTold past → AllTold (past ++ (m ∷ []))
 told-more past m one all = omega (arith, one, all, total-append toldBy past (m ∷ []), length-append past (m ∷ []))
 
-pub told-skipped : (past : List Meaning) → AllTold past → AllTold (past ++ (skips ∷ []))
-told-skipped past = told-more past skips refl
-
-pub told-given : (past : List Meaning) (g : Given) → AllTold past → AllTold (past ++ (gives g ∷ []))
-told-given past (ref a) = told-more past (gives (ref a)) refl
+pub told-given : (g : Given) → toldBy (gives g) ≡ 1
+told-given (ref a) = refl
 
 told-total : (l : List Meaning) → total toldBy l ≡ total referred (givenIn l) + total skippedBy l
 unfolding givenIn

@@ -10,9 +10,7 @@ use borrow.Author.Tests.{leb-true, leb-false}
 use Rattle.lists.specs.Tests.{settled}
 use Rattle.lists.proofs.TestLaws.{settled-not}
 use Rattle.lists.proofs.Cases.{picked, both-picked}
-use Rattle.cache.specs.Cache.{Given}
 use Rattle.taking.specs.Opening.{openAnswer}
-use Rattle.taking.specs.Taking.{takeAnswer, taken}
 use Rattle.lines.specs.declared.Kinds.{Kinds}
 use Rattle.lines.specs.declared.Kinds.the-variants.{All, Fetch, Data}
 use Rattle.lines.specs.declared.OrderLine.{OrderLine}
@@ -20,11 +18,11 @@ use Rattle.lines.specs.OrderLine.{orderLineOf}
 use Rattle.lines.proofs.CaseLaws.{order-cases}
 use Rattle.reading.specs.declared.Reading.{Reading}
 use Rattle.reading.specs.declared.Step.{Step}
-use Rattle.reading.specs.Reading.{kindsNext, beginNext, withLines, withTally, oneSkipped}
-use Rattle.reading.specs.Reading.{Desk, worldOf, withWorld, withReading, Outcome, outcome, answered, stays}
-use Rattle.reading.specs.Meaning.{Meaning, gives, skips, fails, meaningOf}
+use Rattle.reading.specs.Reading.{kindsNext, beginNext, withLines}
+use Rattle.reading.specs.Reading.{Desk, worldOf, withReading, Outcome, outcome, answered, stays}
+use Rattle.reading.specs.Meaning.{Meaning, meaningOf}
 use Rattle.reading.specs.Head.{numberAt, kindsAt, orderOf, begun, opening, beginAt, orderStep}
-use Rattle.reading.specs.Step.{takes, passed, traceStep, inTrace, linesMost, isTooMany, counted, stepOf, Steps}
+use Rattle.reading.specs.Step.{lineAnswer, followed, traceStep, inTrace, linesMost, isTooMany, counted, stepOf, Steps}
 
 -- a line that was counted and is read
 record Numbered (d : Desk) (o : Outcome) : Type 0 where
@@ -65,16 +63,8 @@ module _ (d : Desk) where
       (kinds-numbered All, (kinds-numbered Fetch, (kinds-numbered Data, (begin-numbered, tt))))
       (refuses 10)
 
-  taking-numbered : (g : Given) → Numbered d (takes d g)
-  taking-numbered g = decided (takeAnswer (worldOf d) g) (withWorld (taken (worldOf d) g) d) refl
-
-  passed-numbered : Numbered d (stays (passed (d .reading)) d)
-  passed-numbered = goes-on (withTally (oneSkipped (d .reading .tally)) (d .reading)) refl
-
   trace-numbered : (m : Meaning) → Numbered d (traceStep d m)
-  trace-numbered (gives g) = taking-numbered g
-  trace-numbered skips = passed-numbered
-  trace-numbered (fails n) = refuses n
+  trace-numbered m = decided (lineAnswer (worldOf d) m) (followed d m) refl
 
 -- a step: the line's number is one more than were read before, and there is a number left for a line that is done
 pub record Reported (d : Desk) (o : Outcome) : Type 0 where

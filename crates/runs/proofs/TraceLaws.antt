@@ -8,23 +8,23 @@ use native.Mathlib.Omega.{arith}
 use lib.Dec.{eqb}
 use lib.ListN.{length, length-append}
 use borrow.Author.Tests.{leb-false, eqb-true, eqb-false}
+use Rattle.lists.specs.Runs.{after}
 use Rattle.lists.proofs.Cases.{picked, both-picked}
 use Rattle.lists.proofs.TestLaws.{settled-done}
 use Rattle.cache.specs.Cache.{Given}
 use Rattle.order.specs.declared.Order.{Order}
 use Rattle.taking.specs.World.{World}
-use Rattle.taking.specs.Taking.{takeAnswer, taken}
+use Rattle.taking.specs.Taking.{taken}
 use Rattle.calls.proofs.HistoryLaws.{History, history-taken}
-use Rattle.calls.specs.Answers.{answerAfter}
 use Rattle.calls.proofs.AnswerLaws.{answer-told}
 use Rattle.lines.specs.declared.Kinds.{Kinds}
 use Rattle.reading.specs.declared.Step.{Step}
-use Rattle.reading.specs.Meaning.{Meaning, gives, skips, meaningOf, givenBy, givenIn}
-use Rattle.reading.specs.Reading.{oneSkipped, Desk, worldOf, withWorld, Outcome, outcome, stays}
-use Rattle.reading.specs.Step.{takes, passed, traceStep, inTrace, linesMost, isTooMany, counted, stepOf}
+use Rattle.reading.specs.Meaning.{Meaning, gives, skips, fails, meaningOf, tallied, givenBy, givenIn}
+use Rattle.reading.specs.Reading.{Desk, worldOf, Outcome, outcome, stays}
+use Rattle.reading.specs.Step.{lineAnswer, followed, traceStep, inTrace, linesMost, isTooMany, counted, stepOf}
 use Rattle.runs.specs.Input.{meantIn, runFrom}
 use Rattle.runs.specs.Endings.{traceAnswer, nextAnswer, Ending, endsAt, traceEnding}
-use Rattle.runs.proofs.MeaningLaws.{meaning-cases, given-more, tally-skipped, tally-given, told-skipped, told-given, Stands}
+use Rattle.runs.proofs.MeaningLaws.{meaning-cases, given-more, tally-more, toldBy, told-more, told-given, Stands}
 use Rattle.runs.proofs.NumberLaws.{step-reported}
 
 -- what is on a desk
@@ -52,35 +52,27 @@ module _ (d : Desk) (past : List Meaning) (h : Stands d past) where
   abbrev w : World
   w = worldOf d
 
-  skips-traced : length past < linesMost → Traced d past skips 0 (stays (passed (d .reading)) d)
-  skips-traced fits = record {
-    answer = refl;
-    next = λ e. record {
-      order = refl;
-      kinds = refl;
-      stands = record {
-        trace = h .trace;
-        history = subst (History w) (sym (given-more past skips ∙ append-nil (givenIn past))) (h .history);
-        tally = ap oneSkipped (h .tally) ∙ tally-skipped past fits;
-        told = told-skipped past (h .told);
-      };
-    };
-  }
+  same-order : (m : Meaning) → after taken w (givenBy m) .state .order ≡ o
+  same-order (gives g) = refl
+  same-order skips = refl
+  same-order (fails n) = refl
 
-  gives-traced : (g : Given) → Traced d past (gives g) (answerAfter o (givenIn past) g) (takes d g)
-  gives-traced g = record {
-    answer = answer-told w (givenIn past) (h .history) g;
+  -- what the answer must be, and, where it is done, that what the line gives was taken and the line is told
+  traced : (m : Meaning) → length past < linesMost → lineAnswer w m ≡ traceAnswer o (givenIn past) m
+      → (lineAnswer w m ≡ 0 → History (after taken w (givenBy m)) (givenIn past ++ givenBy m) × (toldBy m ≡ 1))
+      → Traced d past m (traceAnswer o (givenIn past) m) (traceStep d m)
+  traced m fits same done = record {
+    answer = same;
     next = λ e.
-        subst (λ (x : Desk). Followed d past (gives g) (outcome (takeAnswer w g) x))
-        (sym (settled-done (takeAnswer w g) (withWorld (taken w g) d) d e))
+        subst (λ (x : Desk). Followed d past m (outcome (lineAnswer w m) x)) (sym (settled-done (lineAnswer w m) (followed d m) d e))
         (record {
-          order = refl;
+          order = same-order m;
           kinds = refl;
           stands = record {
             trace = h .trace;
-            history = subst (History (taken w g)) (sym (given-more past (gives g))) (history-taken w (givenIn past) (h .history) g e);
-            tally = h .tally ∙ tally-given past g;
-            told = told-given past g (h .told);
+            history = subst (History (after taken w (givenBy m))) (sym (given-more past m)) (done e .0);
+            tally = ap (tallied m) (h .tally) ∙ tally-more past m fits;
+            told = told-more past m (done e .1) (h .told);
           };
         });
   }
@@ -89,7 +81,11 @@ module _ (d : Desk) (past : List Meaning) (h : Stands d past) where
       → let m = meaningOf (kindsOn d) line in Traced d past m (traceAnswer o (givenIn past) m) (traceStep d m)
   line-traced line fits =
       meaning-cases (λ (m : Meaning). Traced d past m (traceAnswer o (givenIn past) m) (traceStep d m))
-      gives-traced (skips-traced fits) (record { answer = refl; next = λ e. absurd (omega arith) }) (kindsOn d) line
+      (λ g. traced (gives g) fits (answer-told w (givenIn past) (h .history) g)
+      (λ e. (history-taken w (givenIn past) (h .history) g e, told-given g)))
+      (traced skips fits refl (λ e. (subst (History w) (sym (append-nil (givenIn past))) (h .history), refl)))
+      (record { answer = refl; next = λ e. absurd (omega arith) })
+      (kindsOn d) line
 
 step-traced : (d : Desk) (line : List ℕ) (past : List Meaning) → Stands d past → length past ≤ d .reading .lines
     → let m = meaningOf (kindsOn d) line in

@@ -7,7 +7,7 @@ use Rattle.reading.specs.declared.Step.{Step}
 use Rattle.reading.specs.Reading.{Desk, desk, Outcome, stays}
 use Rattle.reading.specs.Meaning.{Meaning, meant, meaningOf}
 use Rattle.reading.specs.Step.{traceStep}
-use Rattle.reading.proofs.StepLaws.{counted-step, passed-step}
+use Rattle.reading.proofs.StepLaws.{counted-step, passed-step, failed-step}
 use borrow.Author.Needs.{needs}
 use Rattle.reading.proofs.tracing.trace_step.Statement.{statement}
 use Rattle.reading.proofs.tracing.trace_step.Tie as tie
@@ -56,7 +56,10 @@ returns-3 c =
     told at (c .before .enum-told .given .1) (ap (λ (s : Step). stays s (deskAt at)) (c .pass2 .ensures))
 
 returns-4 : tie.Need-returns-4
-returns-4 c = told (c .before .before .before) (c .before .read2 .given .1) refl
+returns-4 c =
+    let at = c .before .before .before in
+    let given = c .before .read2 .given in
+    told at (given .1) (failed-step (deskAt at) (given .0 .0))
 
 -- closed by search
 pub trace-step-spec : {M : Type 1} → statement M
