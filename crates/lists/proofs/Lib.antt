@@ -1,6 +1,7 @@
 pub mod BitLaws
 pub mod BoolLaws
 pub mod Cases
+pub mod CompareLaws
 pub mod CoverLaws
 pub mod CutLaws
 pub mod DistinctLaws
