@@ -9,8 +9,9 @@ use native.Mathlib.Omega.{arith}
 use lib.Dec.{eqb, leb}
 use lib.ListN.{length, drop, getD, drop-of-length-le, length-drop}
 use lib.Seq.{drop-cons}
-use borrow.Author.Tests.{eq-eqb, ne-eqb, le-leb, lt-leb, lt-ltb, le-ltb, leb-true, leb-false}
+use borrow.Author.Tests.{eq-eqb, ne-eqb, le-leb, lt-leb, lt-ltb, le-ltb}
 use Rattle.lists.proofs.Cases.{cases}
+use Rattle.lists.proofs.CompareLaws.{at-most-cut, at-least-cut}
 use Rattle.lines.specs.Bytes.{isDecimal}
 use Rattle.units.specs.Refusals.{badOrderLine}
 use Rattle.lines.specs.OrderLine.{
@@ -131,17 +132,11 @@ module _ (l : List ℕ) (from : ℕ) where
 
 -- the value handed on is within a limit exactly where the number itself is, from above and from below
 
-pub at-most-handed-on : (v limit : ℕ) → limit < 4294967295 → leb (min v 4294967295) limit ≡ leb v limit
-at-most-handed-on v limit h =
-    cases (leb v limit)
-    (λ e. let f = leb-true v limit e in le-leb (min v 4294967295) limit (omega arith) ∙ sym e)
-    (λ e. let f = leb-false v limit e in lt-leb (min v 4294967295) limit (omega arith) ∙ sym e)
+pub at-most-handed-on : (digits : List ℕ) (limit : ℕ) → limit < 4294967295 → leb (valueOf digits) limit ≡ leb (decimal 0 digits) limit
+at-most-handed-on digits limit h = at-most-cut (decimal 0 digits) 4294967295 limit h
 
-pub at-least-handed-on : (v limit : ℕ) → limit ≤ 4294967295 → leb limit (min v 4294967295) ≡ leb limit v
-at-least-handed-on v limit h =
-    cases (leb limit v)
-    (λ e. let f = leb-true limit v e in le-leb limit (min v 4294967295) (omega arith) ∙ sym e)
-    (λ e. let f = leb-false limit v e in lt-leb limit (min v 4294967295) (omega arith) ∙ sym e)
+pub at-least-handed-on : (digits : List ℕ) (limit : ℕ) → limit ≤ 4294967295 → leb limit (valueOf digits) ≡ leb limit (decimal 0 digits)
+at-least-handed-on digits limit h = at-least-cut (decimal 0 digits) 4294967295 limit h
 
 -- ---- the line, by the first of the cases that fits: `r` is what was found of it
 

@@ -1,9 +1,12 @@
 pub mod BitLaws
 pub mod BoolLaws
+pub mod BumpLaws
 pub mod Cases
+pub mod CompareLaws
 pub mod CoverLaws
 pub mod CutLaws
 pub mod DistinctLaws
+pub mod FrontLaws
 pub mod LengthLaws
 pub mod MemberLaws
 pub mod PartLaws

@@ -1,14 +1,15 @@
--- Laws of `mem`, `remove`, `above` and `keep`, in that order; then of `take` beside them.
+-- Laws of `mem`, `remove`, `above` and `keep`, and of `take` beside them: a number that goes to the front, those that pass a test, and a walk
+-- down a list.
 -- Assumes nothing.
 use Prim.Native.Nat.{ℕ, zero, suc, _≤_, _<_}
 use mathlib.Core.Path.{_≡_, refl, sym, ap, _∙_}
 use mathlib.Core.Bool.{Bool, true, false, cond, _&&_, _||_, and-false, true≢false, false≢true}
-use mathlib.Core.List.{List, [], _∷_}
+use mathlib.Core.List.{List, [], _∷_, _++_}
 use native.Mathlib.Omega.{arith}
 use lib.Dec.{eqb, ltb, leb·zero, leb·suc-zero, leb·suc-suc}
-use lib.ListN.{take, length, getD}
+use lib.ListN.{take, drop, length, getD}
 use lib.Seq.{take-nil}
-use borrow.Author.Tests.{eqb-true, eq-eqb}
+use borrow.Author.Tests.{eqb-true, eq-eqb, ltb-false}
 use Rattle.lists.specs.Members.{mem, remove, above, keep}
 use Rattle.lists.proofs.Cases.{cases}
 
@@ -33,6 +34,13 @@ length-front x (y ∷ l) =
     cases (eqb x y)
     (λ e. simp e)
     (λ e. cases (mem x l) (λ f. simp (e, f) (ap suc (rw f at ih))) (λ f. simp (e, f) (ap suc (rw f at ih))))
+
+-- the number that stands first: it is in the list, above it is none, and to the front it does not move
+pub head-facts : (x : ℕ) (l : List ℕ) → 0 < length l → getD l 0 0 ≡ x → (mem x l ≡ true) × (above x l ≡ []) × (x ∷ remove x l ≡ l)
+head-facts x [] h e = absurd (omega arith)
+head-facts x (y ∷ l) h e =
+    let t = eq-eqb x y (sym e) in
+    (simp t, simp t, simp t (ap (λ (z : ℕ). z ∷ l) (sym e)))
 
 -- ---- the first w of a list, less x, and the first w of the list less x
 
@@ -108,6 +116,34 @@ first-keep p q x h hx (y ∷ l) m =
 pub length-keep : (p : ℕ → Bool) (l : List ℕ) → length (keep p l) ≤ length l
 length-keep p [] = omega arith
 length-keep p (y ∷ l) = cases (p y) (λ e. simp e (omega (arith, length-keep p l))) (λ e. simp e (omega (arith, length-keep p l)))
+
+pub above-le : (x : ℕ) (l : List ℕ) → length (above x l) ≤ length l
+above-le x [] = omega arith
+above-le x (y ∷ l) = cases (eqb x y) (λ e. simp e (omega arith)) (λ e. simp e (omega (arith, above-le x l)))
+
+pub mem-above : (x : ℕ) (l : List ℕ) → mem x l ≡ ltb (length (above x l)) (length l)
+mem-above x [] = refl
+mem-above x (y ∷ l) = cases (eqb x y) (λ e. simp (e, ltb·zero-suc)) (λ e. simp (e, leb·suc-suc) (mem-above x l))
+
+-- what stands around the first x
+pub around-first : (x : ℕ) (l : List ℕ) → length (above x l) < length l
+    → take (length (above x l)) l ++ drop (suc (length (above x l))) l ≡ remove x l
+around-first x [] h = absurd (omega arith)
+around-first x (y ∷ l) h =
+    cases (eqb x y)
+    (λ e. simp e)
+    (λ e. simp e (ap (λ (t : List ℕ). y ∷ t) (around-first x l (rest (simp e at h)))))
+  where
+    rest : suc (length (above x l)) < suc (length l) → length (above x l) < length l
+    rest q = omega arith
+
+-- a list within room stays so with x in front, where fewer than room stand above x
+pub length-front-le : (x room : ℕ) (l : List ℕ) → length (above x l) < room → length l ≤ room → length (x ∷ remove x l) ≤ room
+length-front-le x room l h f =
+    rw (length-front x l)
+    (cases (mem x l)
+    (λ e. simp e f)
+    (λ e. let g = ltb-false (length (above x l)) (length l) (sym (mem-above x l) ∙ e) in simp e (omega arith)))
 
 pub absent-above : (x : ℕ) (l : List ℕ) → mem x l ≡ false → above x l ≡ l
 absent-above x [] h = refl

@@ -4,7 +4,7 @@ use Prim.Native.Nat.{ℕ, zero, suc, _+_, _*_, _≤_, _<_}
 use mathlib.Core.Path.{_≡_, refl, ap, _∙_}
 use mathlib.Core.Bool.{Bool, true, false, cond}
 use mathlib.Core.List.{List}
-use native.Mathlib.Nat.{suc-mul, mul-one, mul-le-mul-left}
+use native.Mathlib.Nat.{suc-mul, add-mul, mul-one, mul-assoc, mul-le-mul-left}
 use native.Mathlib.Numerals.{add-one}
 use native.Mathlib.Omega.{arith}
 use lib.Arith.{digits-lt}
@@ -26,6 +26,10 @@ pub cell-end : (groups rows ways k s w : ℕ) → k < groups → s < rows → w 
 cell-end groups rows ways k s w h f g =
     let q = cell-in rows k groups s h f in
     (q, omega (arith, row-in (k * rows + s) (groups * rows) ways q))
+
+-- a place in row s of group k, and the same from where the group starts
+pub cell-in-group : (rows ways k s d : ℕ) → (k * rows + s) * ways + d ≡ k * (rows * ways) + (s * ways + d)
+cell-in-group rows ways k s d = omega (arith, add-mul (k * rows) s ways, mul-assoc k rows ways)
 
 -- the number of a row is no more than the place where it starts
 pub row-le : (r w : ℕ) → 0 < w → r ≤ r * w

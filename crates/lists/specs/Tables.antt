@@ -1,6 +1,7 @@
--- Tables as lists of numbers: parts that are zeroed, written over or read, and rows of counts of which some go up by one.
+-- Tables as lists of numbers: parts that are zeroed, written over or read, and places and rows of counts of which some go up by one.
 -- Assumes nothing.
-use Prim.Native.Nat.{ℕ, zero, suc, _+_, _-_, _*_}
+use Prim.Native.Nat.{ℕ, zero, suc, _+_, _-_, _*_, _≤_, _<_}
+use mathlib.Core.Path.{_≡_}
 use mathlib.Core.Bool.{Bool, cond, _&&_}
 use mathlib.Core.List.{List, [], _∷_, _++_}
 use lib.Dec.{leb, ltb}
@@ -26,6 +27,10 @@ part base n l = take n (drop base l)
 abbrev pub padded : ℕ → List ℕ → List ℕ
 padded n l = l ++ replicate (n - length l) 0
 
+-- the first p entries moved down one, over the entry at p, and x in front
+abbrev pub front : ℕ → ℕ → List ℕ → List ℕ
+front x p l = x ∷ (take p l ++ drop (p + 1) l)
+
 -- a list written over a table, from a place on
 unfoldable pub writeAt : ℕ → List ℕ → List ℕ → List ℕ
 writeAt base p l = take base l ++ (p ++ drop (length p) (drop base l))
@@ -39,6 +44,13 @@ writtenRows room top (suc k) l = writeAt (k * room) (top k) (writtenRows room to
 unfoldable pub setLengths : (ℕ → List ℕ) → ℕ → List ℕ → List ℕ
 setLengths top zero l = l
 setLengths top (suc k) l = set (setLengths top k l) k (length (top k))
+
+-- one more at each of the n places from base on that is at most base + z, and the others as they were
+pub record Bumped (base n z : ℕ) (old new : List ℕ) : Type 0 where
+  pub more : (s : ℕ) → s < n → s ≤ z → getD new (base + s) 0 ≡ getD old (base + s) 0 + 1
+  pub less : (s : ℕ) → s < n → z < s → getD new (base + s) 0 ≡ getD old (base + s) 0
+  pub before : (i : ℕ) → i < base → getD new i 0 ≡ getD old i 0
+  pub past : (i : ℕ) → base + n ≤ i → getD new i 0 ≡ getD old i 0
 
 -- one more at a place, where the test holds
 abbrev pub raiseIf : Bool → ℕ → List ℕ → List ℕ

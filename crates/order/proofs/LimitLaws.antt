@@ -1,6 +1,6 @@
--- What an order's limits say: the answer of `is_within` as a fact, how large the needs can get, and that products of two numbers of 32 bits fit 64.
+-- What an order's limits say: the answer of `is_within` as a fact, how large the needs can get, and the counts needed by block size.
 -- Assumes nothing.
-use Prim.Native.Nat.{ℕ, _*_, _≤_, _<_}
+use Prim.Native.Nat.{_*_, _≤_}
 use mathlib.Core.Path.{_≡_, sym, _∙_}
 use mathlib.Core.Bool.{Bool, true, false, not}
 use native.Mathlib.Nat.{mul-le-mul, mul-assoc}
@@ -44,7 +44,3 @@ needs-small o f = record {
 -- the counts an order needs, by block size
 pub need-spans : (o : Order) → countNeed o ≡ sizes o * span o
 need-spans o = mul-assoc (sizes o) (rows o) (o .ways)
-
--- one more than a number of 32 bits, times a number of 32 bits, fits 64
-pub product-fits : (m n : ℕ) → m ≤ 4294967296 → n ≤ 4294967295 → m * n < 18446744073709551616
-product-fits m n h g = omega (arith, mul-le-mul {n₁ = m} {m₁ = n} {n₂ = 4294967296} {m₂ = 4294967295} h g)

@@ -1,4 +1,3 @@
-pub mod BumpLaws
 pub mod LookLaws
 pub mod MoveLaws
 pub mod NeedLaws

@@ -9,18 +9,20 @@ use native.Mathlib.Omega.{arith}
 use lib.Bits.{bitXor}
 use lib.Count.{trailingZeros}
 use lib.Dec.{eqb, leb}
-use lib.ListN.{length, take, drop, getD, set, length-set, length-take, length-drop}
-use lib.Seq.{length-take-le, take-all, getD-take, getD-drop, getD-set-same, getD-set-other}
+use lib.ListN.{length, take, getD, set, length-set, length-take}
+use lib.Seq.{length-take-le, take-all, getD-set-same, getD-set-other}
 use borrow.Author.Tests.{eq-eqb, eqb-true, eqb-false, ne-eqb, leb-true, leb-false}
 use Rattle.lists.specs.Members.{mem, above, keep}
+use Rattle.lists.specs.Tables.{Bumped}
 use Rattle.lists.proofs.Cases.{cases}
 use Rattle.lists.proofs.MemberLaws.{length-keep, length-keep-le, absent-above, found-above, absent-suc, count-suc}
+use Rattle.lists.proofs.PartLaws.{part-at, length-part}
 use Rattle.cache.specs.Cache.{setOf}
 use Rattle.cache.specs.Stack.{depth}
 use Rattle.cache.proofs.SetLaws.{set-fewer, shared}
 use Rattle.order.specs.Limits.{sizes, rows}
 use Rattle.taking.specs.Places.{usedOf, stackAt, depthAt}
-use Rattle.taking.specs.Parts.{Bumped, Looked, Fit}
+use Rattle.taking.specs.Parts.{Looked, Fit}
 use Rattle.taking.specs.declared.Opened.{Opened}
 use Rattle.taking.proofs.NeedLaws.{stack-fits}
 
@@ -53,12 +55,10 @@ pub record Left (v : Opened) (st : List ℕ) (x : ℕ → ℕ) (k i : ℕ) (ds :
   pub here : (s : ℕ) → s < rows (v .order) → getD ds (k * 15 + s) 0 ≡ depthAt v st x k s
 
 pub length-stack : (v : Opened) (st : List ℕ) (m k : ℕ) → Fit v (length st) m → k < sizes (v .order) → length (stackAt v st k) ≡ usedOf v k
-length-stack v st m k f h =
-    length-take-le (usedOf v k) (drop (k * v .order .room) st)
-    (rw (length-drop (k * v .order .room) st) (omega (arith, stack-fits v (length st) m k f h, f .used k h)))
+length-stack v st m k f h = length-part (k * v .order .room) (usedOf v k) st (omega (arith, stack-fits v (length st) m k f h, f .used k h))
 
 pub read-stack : (v : Opened) (st : List ℕ) (k i : ℕ) → i < usedOf v k → getD (stackAt v st k) i 0 ≡ getD st (k * v .order .room + i) 0
-read-stack v st k i h = getD-take (usedOf v k) (drop (k * v .order .room) st) i 0 h ∙ getD-drop (k * v .order .room) st i 0
+read-stack v st k i h = part-at (k * v .order .room) (usedOf v k) st i h
 
 -- at more sets a block is no deeper
 pub depth-falls : (s t : ℕ) → s ≤ t → (x : ℕ) (l : List ℕ) → depth t x l ≤ depth s x l

@@ -1,149 +1,21 @@
--- The turns of `to_front`, and that it puts a block on top of its stack wherever the walk left.
--- Assumes nothing.
-use Prim.Native.Nat.{ℕ, zero, suc, _+_, _-_, _*_, _≤_, _<_}
-use mathlib.Core.Path.{_≡_, refl, sym, ap, _∙_}
-use mathlib.Core.Bool.{false, true≢false}
-use mathlib.Core.List.{List, [], _∷_, _++_}
-use native.Mathlib.Numerals.{add-one, sub-one}
+-- All stacks, where each walk left below room: each stays within room with its block on top, and a loop finds each as it was.
+-- Not here: a block that goes to the front of one stack (lists/FrontLaws). Assumes nothing.
+use Prim.Native.Nat.{ℕ, _*_, _≤_, _<_}
+use mathlib.Core.Path.{_≡_, ap, _∙_}
+use mathlib.Core.List.{List, _∷_}
 use native.Mathlib.Omega.{arith}
-use lib.Dec.{eqb, ltb, leb·suc-suc}
-use lib.ListN.{length, take, drop, getD, set, length-take, length-drop, take-append-drop, drop-of-length-le, List·getD-append}
-use lib.Seq.{take-suc, append-snoc, set-at, slice, slice-cons, slice-empty, length-take-le, take-take, getD-take}
-use borrow.Author.Tests.{lt-ltb, le-ltb, ltb-false}
-use Rattle.lists.specs.Members.{mem, remove, above}
-use Rattle.lists.specs.Tables.{part, writeAt, writtenRows}
-use Rattle.lists.proofs.Cases.{cases}
-use Rattle.lists.proofs.MemberLaws.{length-front, ltb·zero-suc, absent-remove}
-use Rattle.lists.proofs.WriteLaws.{put-writes}
+use lib.ListN.{length, take, drop, getD, length-take}
+use Rattle.lists.specs.Members.{remove}
+use Rattle.lists.specs.Tables.{part, writtenRows}
+use Rattle.lists.proofs.MemberLaws.{length-front-le}
 use Rattle.lists.proofs.PartLaws.{drop-rows}
-use Rattle.taking.specs.Parts.{front, toppedAt, toppedBy, Roomed}
-
--- ---- the turns
-
--- the entries from i to p - 1 moved down one, over the entry at p
-abbrev pub shifted : ℕ → ℕ → List ℕ → List ℕ
-shifted i p l = take (suc i) l ++ (slice i p l ++ drop (suc p) l)
-
-pub shift-none : (p : ℕ) (l : List ℕ) → l ≡ shifted p p l
-shift-none p l = sym (ap (λ (m : List ℕ). take (suc p) l ++ (m ++ drop (suc p) l)) (slice-empty p l) ∙ take-append-drop (suc p) l)
-
-pub shift-more : (i p : ℕ) (l m : List ℕ) → m ≡ shifted i p l → 0 < i → i ≤ p → p < length l → set m i (getD m (i - 1) 0) ≡ shifted (i - 1) p l
-shift-more zero p l m e h f g = absurd (omega arith)
-shift-more (suc i) p l m e h f g =
-    rw (sub-one (suc i))
-    (ap (λ (q : List ℕ). set q (suc i) (getD q i 0))
-    (e ∙ ap (λ (t : List ℕ). t ++ (slice (suc i) p l ++ drop (suc p) l)) (take-suc l (suc i) 0 (omega arith))
-    ∙ append-snoc (take (suc i) l) (getD l (suc i) 0) (slice (suc i) p l ++ drop (suc p) l))
-    ∙ ap (λ (v : ℕ). set (take (suc i) l ++ getD l (suc i) 0 ∷ (slice (suc i) p l ++ drop (suc p) l)) (suc i) v)
-    (List·getD-append (take (suc i) l) (getD l (suc i) 0 ∷ (slice (suc i) p l ++ drop (suc p) l)) 0 i
-    (rw (length-take-le (suc i) l (omega arith)) (omega arith))
-    ∙ getD-take (suc i) l i 0 (omega arith))
-    ∙ set-at (take (suc i) l) (getD l (suc i) 0) (slice (suc i) p l ++ drop (suc p) l) (getD l i 0) (suc i) (length-take-le (suc i) l (omega arith))
-    ∙ ap (λ (t : List ℕ). take (suc i) l ++ (t ++ drop (suc p) l)) (sym (slice-cons i p l 0 (omega arith) (omega arith))))
-
-pub shift-all : (x p : ℕ) (l m : List ℕ) → m ≡ shifted 0 p l → p < length l → set m 0 x ≡ front x p l
-shift-all x p [] m e h = absurd (omega arith)
-shift-all x p (y ∷ l) m e h = rw (add-one p) (ap (λ (q : List ℕ). set q 0 x) e)
-
--- ---- where a walk leaves
-
-pub above-le : (x : ℕ) (l : List ℕ) → length (above x l) ≤ length l
-above-le x [] = omega arith
-above-le x (y ∷ l) = cases (eqb x y) (λ e. simp e (omega arith)) (λ e. simp e (omega (arith, above-le x l)))
-
-pub mem-above : (x : ℕ) (l : List ℕ) → mem x l ≡ ltb (length (above x l)) (length l)
-mem-above x [] = refl
-mem-above x (y ∷ l) = cases (eqb x y) (λ e. simp (e, ltb·zero-suc)) (λ e. simp (e, leb·suc-suc) (mem-above x l))
-
-front-old : (x : ℕ) (l : List ℕ) → length (above x l) < length l → front x (length (above x l)) l ≡ x ∷ remove x l
-front-old x l h = ap (λ (t : List ℕ). x ∷ t) (rw (add-one (length (above x l))) (around l h))
-  where
-    around : (l : List ℕ) → length (above x l) < length l → take (length (above x l)) l ++ drop (suc (length (above x l))) l ≡ remove x l
-    around [] h = absurd (omega arith)
-    around (y ∷ l) h =
-        cases (eqb x y)
-        (λ e. simp e)
-        (λ e. simp e (ap (λ (t : List ℕ). y ∷ t) (around l (rest (simp e at h)))))
-      where
-        rest : suc (length (above x l)) < suc (length l) → length (above x l) < length l
-        rest q = omega arith
-
-module _ (base used x : ℕ) (l : List ℕ) (inside : base + used ≤ length l) (p : ℕ) (left : p ≡ length (above x (part base used l))) where
-  part-long : length (part base used l) ≡ used
-  part-long = length-take-le used (drop base l) (rw (length-drop base l) (omega arith))
-
-  -- found: the part of `used` entries
-  pub put-old : p < used
-      → (take base l ++ (front x p (take (base + used - base) (drop base l)) ++ drop (base + used - base) (drop base l)) ≡ writeAt base
-      (x ∷ remove x (part base used l)) l)
-      × (used ≡ length (x ∷ remove x (part base used l)))
-  put-old h = (
-    rw cut (ap (λ (t : List ℕ). take base l ++ (t ++ drop used (drop base l))) fronted
-        ∙ put-writes base used (x ∷ remove x (part base used l)) l long),
-    sym long,
-  )
-    where
-      cut : base + used - base ≡ used
-      cut = omega arith
-
-      fronted : front x p (take used (drop base l)) ≡ x ∷ remove x (part base used l)
-      fronted = ap (λ (q : ℕ). front x q (part base used l)) left ∙ front-old x (part base used l) (rw (part-long, ← left) h)
-
-      long : length (x ∷ remove x (part base used l)) ≡ used
-      long =
-          length-front x (part base used l) ∙ simp
-          (mem-above x (part base used l) ∙ lt-ltb (length (above x (part base used l))) (length (part base used l))
-          (rw (part-long, ← left) h)) part-long
-
-  -- new: the part of one entry more
-  pub put-new : used ≤ p → base + used < length l
-      → (take base l ++ (front x p (take (base + used + 1 - base) (drop base l)) ++ drop (base + used + 1 - base) (drop base l)) ≡ writeAt base
-      (x ∷ remove x (part base used l)) l)
-      × (used + 1 ≡ length (x ∷ remove x (part base used l)))
-  put-new h f = (
-    rw cut (ap (λ (t : List ℕ). take base l ++ (t ++ drop (used + 1) (drop base l))) fronted
-        ∙ put-writes base (used + 1) (x ∷ remove x (part base used l)) l long),
-    sym long,
-  )
-    where
-      cut : base + used + 1 - base ≡ used + 1
-      cut = omega arith
-
-      last : p ≡ used
-      last = omega (arith, above-le x (part base used l), part-long, left)
-
-      absent : mem x (part base used l) ≡ false
-      absent =
-          mem-above x (part base used l) ∙ le-ltb (length (above x (part base used l))) (length (part base used l)) (omega (arith, part-long, left))
-
-      tail : drop (used + 1) (take (used + 1) (drop base l)) ≡ []
-      tail = drop-of-length-le (take (used + 1) (drop base l)) {i = used + 1} (rw (length-take (used + 1) (drop base l)) (omega arith))
-
-      fronted : front x p (take (used + 1) (drop base l)) ≡ x ∷ remove x (part base used l)
-      fronted =
-          ap (λ (q : ℕ). front x q (take (used + 1) (drop base l))) last
-          ∙ ap (λ (t : List ℕ). x ∷ (take used (take (used + 1) (drop base l)) ++ t)) tail
-          ∙ ap (λ (t : List ℕ). x ∷ t) (mathlib.Core.List.append-nil (take used (take (used + 1) (drop base l)))
-          ∙ take-take used (used + 1) (drop base l) (omega arith) ∙ sym (absent-remove x (part base used l) absent))
-
-      long : length (x ∷ remove x (part base used l)) ≡ used + 1
-      long = length-front x (part base used l) ∙ simp absent (omega (arith, part-long))
-
--- ---- all stacks, where each walk left below room
-
--- a stack with its block on top stays within room
-pub topped-le : (x room : ℕ) (q : List ℕ) → length (above x q) < room → length q ≤ room → length (x ∷ remove x q) ≤ room
-topped-le x room q h f =
-    rw (length-front x q)
-    (cases (mem x q)
-    (λ e. simp e f)
-    (λ e. let g = ltb-false (length (above x q)) (length q) (sym (mem-above x q) ∙ e) in simp e (omega arith)))
+use Rattle.taking.specs.Parts.{toppedAt, toppedBy, Roomed}
 
 module _ (n room : ℕ) (x : ℕ → ℕ) (st us ps : List ℕ) (left : Roomed n room x st us ps) where
   pub roomy-of : (k : ℕ) → k < n → length (toppedBy room x st us k) ≤ room
   roomy-of k h =
       let q = part (k * room) (getD us k 0) st in
-      topped-le (x k) room q (rw (← left .place k h) (left .below k h))
+      length-front-le (x k) room q (rw (← left .place k h) (left .below k h))
       (omega (arith, length-take (getD us k 0) (drop (k * room) st), left .used k h))
 
   -- what the loop finds at size k, after the stacks before it have changed: the stack as it was

@@ -8,7 +8,7 @@ use lib.ListN.{length}
 use native.Mathlib.Nat.{mul-le-mul}
 use native.Mathlib.Omega.{arith}
 use lib.Dec.{eqb, ltb}
-use borrow.Author.Tests.{not-false, ltb-false, lt-ltb, le-ltb, eqb-false}
+use borrow.Author.Tests.{not-false, ltb-false, le-ltb, eqb-false}
 use Rattle.lists.specs.Tests.{anyTo}
 use Rattle.lists.proofs.BoolLaws.{or-none, or-both}
 use Rattle.lists.proofs.PartLaws.{row-in, rows-le}
@@ -22,13 +22,6 @@ use Rattle.sizes.specs.Size.{isFull, isOver}
 use Rattle.cache.specs.Cache.{Given}
 use Rattle.taking.specs.Parts.{earlyAnswer, Fit, Grid, Rows, Tabled}
 use Rattle.taking.specs.declared.Opened.{Opened}
-
--- a table of n entries, compared with a need m that was computed as r
-pub short-of : {n r m : ℕ} → r ≡ m → n < r → ltb n m ≡ true
-short-of {n} {r} {m} e h = lt-ltb n m (omega arith)
-
-pub long-of : {n r m : ℕ} → r ≡ m → r ≤ n → ltb n m ≡ false
-long-of {n} {r} {m} e h = le-ltb n m (omega arith)
 
 -- all rows of an order that fits
 pub needs-few : (v : Opened) (n m : ℕ) → Fit v n m → sizes (v .order) * rows (v .order) ≤ 120

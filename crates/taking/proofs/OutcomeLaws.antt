@@ -13,7 +13,7 @@ use Rattle.lists.specs.Tables.{overRow, overGroups, raisedGroups}
 use Rattle.lists.specs.Tests.{anyTo}
 use Rattle.lists.proofs.BoolLaws.{and-false-of}
 use Rattle.lists.proofs.Cases.{cases}
-use Rattle.lists.proofs.MemberLaws.{absent-above}
+use Rattle.lists.proofs.MemberLaws.{mem-above, absent-above}
 use Rattle.lists.proofs.RaiseLaws.{groups-same}
 use Rattle.lists.proofs.TestLaws.{areGiven, first-then, settled-done, settled-not, any-same, any-not}
 use Rattle.cache.specs.Cache.{blockOf, ref}
@@ -29,7 +29,6 @@ use Rattle.taking.proofs.TakenLaws.{full-each, over-each, taken-is}
 use Rattle.taking.specs.Parts.{earlyAnswer, Fit, widerBy, Looked, foundBy, deepBy, Falling, countMost, AllRaisable, Roomed}
 use Rattle.taking.specs.declared.Opened.{Opened}
 use Rattle.taking.proofs.LookLaws.{length-stack, depth-falls}
-use Rattle.taking.proofs.MoveLaws.{mem-above}
 
 module _ (v : Opened) (st : List ℕ) (x : ℕ → ℕ) (m : ℕ) (ps ds : List ℕ) (f : Fit v (length st) m) (seen : Looked v st x ps ds) where
   same-found : (k : ℕ) → k < sizes (v .order) → foundBy (v .used) ps k ≡ foundAt v st x k

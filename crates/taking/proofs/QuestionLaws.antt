@@ -4,7 +4,6 @@ use Prim.Native.Nat.{ℕ, _+_, _-_, _*_, _≤_, _<_}
 use mathlib.Core.Path.{_≡_, refl, sym, ap, _∙_}
 use mathlib.Core.Bool.{Bool, true, false, cond, not}
 use mathlib.Core.List.{List, [], _∷_}
-use native.Mathlib.Nat.{add-mul, mul-assoc}
 use native.Mathlib.Omega.{arith}
 use lib.Dec.{eqb, ltb}
 use lib.ListN.{length, getD}
@@ -13,7 +12,7 @@ use Rattle.lists.specs.Sums.{sumTo}
 use Rattle.lists.specs.Tests.{All≤, anyTo}
 use Rattle.lists.proofs.BoolLaws.{or-none}
 use Rattle.lists.proofs.PartLaws.{part-at}
-use Rattle.lists.proofs.RaiseLaws.{cell-in, cell-end}
+use Rattle.lists.proofs.RaiseLaws.{cell-in, cell-in-group, cell-end}
 use Rattle.lists.proofs.SumLaws.{sumTo-same}
 use Rattle.lists.proofs.TestLaws.{areGiven, first-then, all-facts, none-first}
 use Rattle.units.specs.Refusals.{countOver}
@@ -101,14 +100,11 @@ module _ (v : Opened) (m b s w : ℕ) (q : Asked v m b s w) where
   hits-at-places ct =
       sumTo-same (λ (d : ℕ). getD (countsAt v ct size) (s * v .order .ways + d) 0) (λ (d : ℕ). getD ct (cell (v .order) size s d) 0) w stands
     where
-      place-is : (k r s v d : ℕ) → (k * r + s) * v + d ≡ k * (r * v) + (s * v + d)
-      place-is k r s v d = omega (arith, add-mul (k * r) s v, mul-assoc k r v)
-
       stands : (d : ℕ) → d < w → getD (countsAt v ct size) (s * v .order .ways + d) 0 ≡ getD ct (cell (v .order) size s d) 0
       stands d h =
           part-at (size * span (v .order)) (span (v .order)) ct (s * v .order .ways + d)
           (cell-in (v .order .ways) s (rows (v .order)) d (omega (arith, q .there)) (omega (arith, q .there)))
-          ∙ ap (λ (j : ℕ). getD ct j 0) (sym (place-is size (rows (v .order)) s (v .order .ways) d))
+          ∙ ap (λ (j : ℕ). getD ct j 0) (sym (cell-in-group (rows (v .order)) (v .order .ways) size s d))
 
   -- they are in the table
   pub places-fit : (size * rows (v .order) + s < sizes (v .order) * rows (v .order))

@@ -1,8 +1,8 @@
 -- Laws of the two ratios: the three outcomes; then, of ratios that are given, that the miss ratio is at most one and the traffic ratio
 -- exactly 2^b times it, so that no NaN and no infinity comes. Not here: rounding (RoundingLaws). Assumes nothing.
-use Prim.Native.Nat.{ℕ, _-_, _^_, _≤_}
+use Prim.Native.Nat.{ℕ, _^_, _≤_}
 use mathlib.Core.Path.{_≡_, refl, sym, ap, subst}
-use mathlib.Core.Bool.{Bool, true, false, cond}
+use mathlib.Core.Bool.{false}
 use mathlib.Core.List.{List}
 use native.Mathlib.Omega.{arith}
 use borrow.Author.Tests.{ne-eqb, eqb-true, eqb-false}
@@ -11,26 +11,22 @@ use lib.IntN.{pos}
 use lib.ListN.{length}
 use lib.Ieee.{fin, binary64, ofBits, le}
 use Rattle.units.specs.Refusals.{noReferences}
-use Rattle.lists.proofs.Cases.{cases}
+use Rattle.lists.proofs.Cases.{cases, picked}
 use Rattle.lists.proofs.TestLaws.{none-first}
-use Rattle.taking.specs.Questions.{hitsOf, missesAnswer, missesOf}
+use Rattle.taking.specs.Questions.{missesAnswer, missesOf}
 use Rattle.taking.specs.Ratios.{ratiosAt, ratiosAnswer, ratiosFrom, ratiosOf}
 use Rattle.taking.specs.declared.Counted.{Counted}
 use Rattle.taking.specs.declared.Opened.{Opened}
 use Rattle.taking.specs.declared.Rated.{Rated}
 use Rattle.taking.specs.declared.Ratios.{Ratios}
 use Rattle.taking.proofs.QuestionLaws.{asked-of, early-none}
-use Rattle.taking.proofs.RoundingLaws.{Times, traffic-times, part-at-most-one}
+use Rattle.taking.proofs.RoundingLaws.{positive-zero, Times, traffic-times, part-at-most-one}
 
 -- ---- the three outcomes
 
 -- the code's 0.0, twice
 abbrev pub zeros : Ratios
 zeros = record { miss = ofBits binary64 0; traffic = ofBits binary64 0 }
-
-positive-zero : ofBits binary64 0 ≡ fin false 0 (pos 0)
-unfolding ofBits
-positive-zero = refl
 
 -- where misses answers r, as its contract c says, with n references taken and blocks of 2^b bytes
 module _ (c r : Counted) (n b : ℕ) (e : r ≡ c) where
@@ -60,10 +56,6 @@ module _ (v : Opened) (ct : List ℕ) (b s w : ℕ) (counted : missesAnswer v ct
 
 -- ---- ratios that are given
 
-part-le : (t : Bool) (n h : ℕ) → cond t (n - h) 0 ≤ n
-part-le true n h = omega arith
-part-le false n h = omega arith
-
 module _ (v : Opened) (ct : List ℕ) (b s w : ℕ) (given : ratiosOf v ct b s w .answer ≡ 0) where
   counted-given : (missesAnswer v ct b s w ≡ 0) × (v .taken ≡ 0 → ⊥)
   counted-given = given-facts (missesOf v ct b s w) (v .taken) given
@@ -74,7 +66,7 @@ module _ (v : Opened) (ct : List ℕ) (b s w : ℕ) (given : ratiosOf v ct b s w
       (counted-given .1)))
 
   misses-le-taken : missesOf v ct b s w .misses ≤ v .taken
-  misses-le-taken = part-le (eqb (missesAnswer v ct b s w) 0) (v .taken) (hitsOf v ct b s w)
+  misses-le-taken = picked (λ (n : ℕ). n ≤ v .taken) (eqb (missesAnswer v ct b s w) 0) (λ e. omega arith) (λ e. omega arith)
 
   pub miss-at-most-one : T (le (ratiosOf v ct b s w .ratios .miss) (fin false 1 (pos 0)))
   miss-at-most-one =

@@ -22,6 +22,11 @@ use lib.Ieee.Order.{drop, kept, round-mono}
 use lib.Ieee.Positive.{first-pos}
 use lib.Ieee.Scale.{round-same, round-val, grid, overflow, grid-scale, normal-of-fraction}
 
+-- the pattern of no bits is zero, without a sign
+pub positive-zero : ofBits binary64 0 ≡ fin false 0 (pos 0)
+unfolding ofBits
+positive-zero = refl
+
 -- ---- an operation's result, from fractions that its operands equal
 
 crossed : (x y p q a b : ℕ) → x * 1 ≡ a * p → y * 1 ≡ b * q → x * q * b ≡ a * (y * p)

@@ -3,16 +3,17 @@
 use Prim.Native.Nat.{ℕ, _+_, _*_, _<_}
 use mathlib.Core.Path.{_≡_, sym, ap, _∙_}
 use mathlib.Core.Bool.{Bool, true, false, not, _&&_}
-use mathlib.Core.List.{List, [], _∷_}
+use mathlib.Core.List.{List, []}
 use native.Mathlib.Nat.{add-zero}
 use native.Mathlib.Omega.{arith}
 use lib.Dec.{eqb, leb}
 use lib.ListN.{length, getD}
-use borrow.Author.Tests.{eq-eqb, eqb-true, eqb-false, leb-false, not-true, not-false}
-use Rattle.lists.specs.Members.{mem, remove, above, keep}
+use borrow.Author.Tests.{eqb-true, eqb-false, leb-false, not-true, not-false}
+use Rattle.lists.specs.Members.{above, keep}
 use Rattle.lists.specs.Tables.{writeAt, raisedRows, overRow}
 use Rattle.lists.specs.Tests.{anyTo}
 use Rattle.lists.proofs.BoolLaws.{or-none}
+use Rattle.lists.proofs.MemberLaws.{head-facts}
 use Rattle.lists.proofs.PartLaws.{write-same}
 use Rattle.lists.proofs.RaiseLaws.{groups-same}
 use Rattle.lists.proofs.TestLaws.{any-not, any-same, any-none-of}
@@ -26,14 +27,6 @@ use Rattle.taking.specs.declared.Opened.{Opened}
 use Rattle.taking.proofs.NeedLaws.{stack-fits}
 use Rattle.taking.proofs.LookLaws.{length-stack, read-stack}
 
--- ---- the block on top
-
-headed : (x : ℕ) (q : List ℕ) → 0 < length q → getD q 0 0 ≡ x → (mem x q ≡ true) × (above x q ≡ []) × (x ∷ remove x q ≡ q)
-headed x [] h e = absurd (omega arith)
-headed x (y ∷ q) h e =
-    let t = eq-eqb x y (sym e) in
-    (simp t, simp t, simp t (ap (λ (z : ℕ). z ∷ q) (sym e)))
-
 module _ (v : Opened) (st : List ℕ) (x : ℕ → ℕ) (m : ℕ) (f : Fit v (length st) m) (on : onTop v st x ≡ true) where
   top-at : (k : ℕ) → k < sizes (v .order) → (0 < usedOf v k) × (x k ≡ getD st (k * v .order .room) 0)
   top-at k h =
@@ -45,7 +38,7 @@ module _ (v : Opened) (st : List ℕ) (x : ℕ → ℕ) (m : ℕ) (f : Fit v (le
 
   top-stack : (k : ℕ) → k < sizes (v .order) → (foundAt v st x k ≡ true) × (above (x k) (stackAt v st k) ≡ []) × (topped v st x k ≡ stackAt v st k)
   top-stack k h =
-      headed (x k) (stackAt v st k) (rw (length-stack v st m k f h) (top-at k h .0))
+      head-facts (x k) (stackAt v st k) (rw (length-stack v st m k f h) (top-at k h .0))
       (read-stack v st k 0 (top-at k h .0) ∙ ap (λ (n : ℕ). getD st n 0) (add-zero (k * v .order .room)) ∙ sym (top-at k h .1))
 
   top-depth : (k s : ℕ) → k < sizes (v .order) → depthAt v st x k s ≡ 0

@@ -3,9 +3,9 @@
 use Prim.Native.Nat.{ℕ, _+_, _*_, _≤_, _<_}
 use mathlib.Core.Path.{_≡_}
 use mathlib.Core.Bool.{Bool, true, not, _||_}
-use mathlib.Core.List.{List, [], _∷_, _++_}
+use mathlib.Core.List.{List, [], _∷_}
 use lib.Dec.{eqb, ltb}
-use lib.ListN.{length, take, drop, getD}
+use lib.ListN.{length, getD}
 use Rattle.lists.specs.Members.{remove, above}
 use Rattle.lists.specs.Tables.{part, writeAt, writtenRows, setLengths}
 use Rattle.lists.specs.Tests.{firstOf, anyTo, All≤}
@@ -70,13 +70,6 @@ pub record Blank (ps ds : List ℕ) : Type 0 where
   pub depths : length ds ≡ sizesMost * rowsMost
   pub zero : (i : ℕ) → getD ds i 0 ≡ 0
 
--- one more at each of the n places from base on that is at most base + z
-pub record Bumped (base n z : ℕ) (old new : List ℕ) : Type 0 where
-  pub more : (s : ℕ) → s < n → s ≤ z → getD new (base + s) 0 ≡ getD old (base + s) 0 + 1
-  pub less : (s : ℕ) → s < n → z < s → getD new (base + s) 0 ≡ getD old (base + s) 0
-  pub before : (i : ℕ) → i < base → getD new i 0 ≡ getD old i 0
-  pub past : (i : ℕ) → base + n ≤ i → getD new i 0 ≡ getD old i 0
-
 -- all block sizes are looked at: where each walk left, and its depths
 pub record Looked (v : Opened) (st : List ℕ) (x : ℕ → ℕ) (ps ds : List ℕ) : Type 0 where
   pub place : (k : ℕ) → k < sizes (v .order) → getD ps k 0 ≡ length (above (x k) (stackAt v st k))
@@ -132,10 +125,6 @@ abbrev pub AllRaisable : ℕ → ℕ → ℕ → (ℕ → Bool) → (ℕ → ℕ
 AllRaisable n r w f d ct = (k : ℕ) → k < n → f k ≡ true → Raisable (k * r) r w (d k) ct
 
 -- ---- the stacks
-
--- the first p entries moved down one, and x on top
-abbrev pub front : ℕ → ℕ → List ℕ → List ℕ
-front x p l = x ∷ (take p l ++ drop (p + 1) l)
 
 -- the stack of `used` entries from base on, with x on top
 abbrev pub toppedAt : ℕ → ℕ → ℕ → List ℕ → List ℕ

@@ -5,9 +5,9 @@ ghost use Prim.Native.Nat.{ℕ, _+_, _*_, _≤_, _<_};
 ghost use lib.Dec.{leb};
 ghost use lib.ListN.{length, getD};
 ghost use Rattle.lists.specs.Sums.{sumTo};
-ghost use Rattle.lists.specs.Tables.{overRow, overGroups, raisedRows, raisedGroups};
+ghost use Rattle.lists.specs.Tables.{Bumped, overRow, overGroups, raisedRows, raisedGroups};
 ghost use Rattle.lists.specs.Tests.{anyTo};
-ghost use Rattle.taking.specs.Parts.{countMost, Bumped, Rows, Tabled, Raisable, AllRaisable, depthFrom, foundBy, deepBy};
+ghost use Rattle.taking.specs.Parts.{countMost, Rows, Tabled, Raisable, AllRaisable, depthFrom, foundBy, deepBy};
 
 // In the `rows` depths from `base` on, one more at each s up to `shared`.
 pub(crate) fn bump(depths: &mut [u32], base: usize, rows: usize, shared: usize)

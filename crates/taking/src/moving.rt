@@ -4,9 +4,10 @@ ghost use mathlib.Core.Path.{_≡_};
 ghost use Prim.Native.Nat.{ℕ, _+_, _*_, _≤_, _<_};
 ghost use lib.Dec.{leb};
 ghost use lib.ListN.{length, getD};
+ghost use Rattle.lists.specs.Tables.{front};
 ghost use Rattle.lists.specs.Tests.{anyTo};
 ghost use Rattle.order.specs.Limits.{sizesMost};
-ghost use Rattle.taking.specs.Parts.{Stopped, Moved, Roomed, AllMoved, front, widerBy};
+ghost use Rattle.taking.specs.Parts.{Stopped, Moved, Roomed, AllMoved, widerBy};
 
 // Some walk left at or past room: its block is new and its stack is full.
 pub(crate) fn is_full(places: &[u32], sizes: usize, room: u32) -> bool

@@ -8,9 +8,9 @@ use native.Mathlib.Omega.{arith}
 use lib.Arith.{lt-of-le-ne}
 use lib.ListN.{length, drop, getD}
 use borrow.Author.Needs.{needs}
+use Rattle.lists.proofs.CompareLaws.{range-yes, range-below, range-above}
 use Rattle.lines.specs.Bytes.{between}
 use Rattle.lines.specs.TraceLine.{inAddress, traceLineOf}
-use Rattle.lines.proofs.ByteLaws.{range-yes, range-below, range-above}
 use Rattle.lines.proofs.TraceLaws.{
   too-long,
   line-empty,

@@ -6,10 +6,11 @@ use mathlib.Core.List.{List}
 use native.Mathlib.Omega.{arith}
 use lib.ListN.{length, drop, getD}
 use borrow.Author.Needs.{needs}
+use Rattle.lists.proofs.BitLaws.{numeral-more, numeral-fits}
+use Rattle.lists.proofs.CompareLaws.{range-yes, range-below, range-above}
 use Rattle.lines.specs.OrderLine.{allDecimal, decimal}
 use Rattle.lines.specs.Parts.{numberOf}
 use Rattle.lines.specs.declared.decimal.Number.the-variants.{Value}
-use Rattle.lines.proofs.ByteLaws.{range-yes, range-below, range-above, numeral-more, numeral-fits}
 use Rattle.lines.proofs.OrderLaws.{
   digits-more,
   digits-other,

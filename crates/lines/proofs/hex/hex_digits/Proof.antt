@@ -8,9 +8,10 @@ use lib.Dec.{ltb}
 use lib.ListN.{drop, getD}
 use borrow.Author.Needs.{needs}
 use borrow.Author.Tests.{le-ltb}
+use Rattle.lists.proofs.BitLaws.{numeral-more, numeral-fits}
 use Rattle.lines.specs.Bytes.{isHex, hexValue}
 use Rattle.lines.specs.TraceLine.{inAddress}
-use Rattle.lines.proofs.ByteLaws.{digit-of-small, no-digit-of-large, numeral-more, numeral-fits}
+use Rattle.lines.proofs.ByteLaws.{digit-of-small, no-digit-of-large}
 use Rattle.lines.proofs.TraceLaws.{address-more}
 use Rattle.lines.proofs.hex.hex_digits.Statement.{statement}
 use Rattle.lines.proofs.hex.hex_digits.Tie as tie

@@ -3,8 +3,8 @@ use mathlib.Core.Path.{_≡_}
 use mathlib.Core.Bool.{false}
 use mathlib.Core.Logic.{⊎-elim}
 use borrow.Author.Needs.{needs}
+use Rattle.lists.proofs.CompareLaws.{range-yes, range-below, range-above}
 use Rattle.lines.specs.Bytes.{between}
-use Rattle.lines.proofs.ByteLaws.{range-yes, range-below, range-above}
 use Rattle.lines.proofs.hex.hex_value.Statement.{statement}
 use Rattle.lines.proofs.hex.hex_value.Tie as tie
 

@@ -3,7 +3,7 @@ use Prim.Native.Nat.{ℕ, _*_}
 use mathlib.Core.Path.{ap}
 use borrow.Author.Needs.{needs}
 use native.Mathlib.Omega.{arith}
-use Rattle.order.proofs.LimitLaws.{product-fits}
+use Rattle.lists.proofs.BitLaws.{product-fits}
 use Rattle.order.proofs.Order.stack_need.Statement.{statement}
 use Rattle.order.proofs.Order.stack_need.Tie as tie
 

@@ -11,9 +11,9 @@ use lib.ListN.{length, getD}
 use borrow.Author.Needs.{needs}
 use borrow.Author.Tests.{eq-eqb, ne-eqb, le-leb, lt-leb}
 use Rattle.lists.specs.Tests.{anyTo}
+use Rattle.lists.proofs.BitLaws.{equal-by-bits}
 use Rattle.lists.proofs.TestLaws.{any-none, any-more, any-yes, any-ended}
 use Rattle.order.specs.Limits.{sizes as sizesOf, countNeed}
-use Rattle.units.proofs.BitLaws.{equal-by-bits}
 use Rattle.taking.specs.Places.{usedOf}
 use Rattle.taking.specs.Parts.{widerBy, offTop}
 use Rattle.taking.proofs.NeedLaws.{stack-fits}
@@ -49,7 +49,8 @@ told c =
     let y = getD (a .stacks .now) i 0 in
     let x = c .before .before .before .wider in
     let small : y < 4294967296 = omega (arith, c .before .before .shared-slice-known2 .given i) in
-    equal-by-bits (x .result .0) y (omega arith) small ∙ ap (λ (z : ℕ). eqb z y) (x .ensures)
+    let wide : x .result .0 < 4294967296 = omega arith in
+    equal-by-bits 32 (x .result .0) y wide small ∙ ap (λ (z : ℕ). eqb z y) (x .ensures)
 
 -- ---- the returns and the turn
 

@@ -3,14 +3,17 @@
 use Prim.Native.Nat.{ℕ, _≤_, _<_, _-_, _+_, _*_}
 use mathlib.Core.Path.{sym, _∙_, subst₂}
 use mathlib.Core.Logic.{⊎-elim}
+use native.Mathlib.Nat.{lt-of-le-of-lt}
 use native.Mathlib.Omega.{arith}
 use lib.Bits.{bitXor}
 use lib.Count.{trailingZeros, trailing-le}
+use lib.Dec.{lit<}
 use lib.ListN.{length, getD}
 use borrow.Author.Needs.{needs}
+use Rattle.lists.specs.Tables.{Bumped}
 use Rattle.order.specs.Limits.{sizes as sizesOf, countNeed}
 use Rattle.taking.specs.Places.{usedOf}
-use Rattle.taking.specs.Parts.{Bumped, widerBy}
+use Rattle.taking.specs.Parts.{widerBy}
 use Rattle.taking.proofs.NeedLaws.{stack-fits}
 use Rattle.taking.proofs.LookLaws.{Sizes, Walking, Left, walk-start, walk-on, walk-found, walk-end, count-small, size-done, looked-of}
 use Rattle.taking.proofs.Opened.look.Statement.{statement}
@@ -69,10 +72,6 @@ left c =
     (c .if1 .came)
 
 -- ---- the walk
-
--- the count of trailing zeros is small
-few-zeros : (n : ℕ) → trailingZeros 32 n < 18446744073709551616
-few-zeros n = omega (arith, trailing-le 32 n)
 
 loop2-holds : tie.Need-loop2-holds Inv-loop2 μ-loop2 Inv-loop μ-loop
 loop2-holds c =
@@ -165,7 +164,7 @@ look-spec =
     (λ c. omega (arith, inside (c .before .before .before .before), c .if1 .left))
     (λ c. omega (arith, inside (c .before .before .before .before .before), c .before .if1 .left))
     (λ c. omega (arith, inside (c .before .before .before .before .before .before .before .before .before .before .before)))
-    (λ c. record { fits = few-zeros _ }) bump-requires add-i
+    (λ c. record { fits = lt-of-le-of-lt (trailing-le 32 _) (lit< tt) }) bump-requires add-i
     (λ c. omega (arith, c .before .before .before .before .before .before .before .before .before .before .if1 .left))
     loop2-again (λ c. omega (arith, inside (c .before .before .before .before .before), left (c .before) .inside))
     (λ c. omega (arith, inside (c .before .before .before .before .before)))

@@ -7,12 +7,12 @@ use lib.Dec.{ltb}
 use lib.ListN.{length}
 use borrow.Author.Needs.{needs}
 use Rattle.lists.specs.Tables.{zeroed}
+use Rattle.lists.proofs.CompareLaws.{short-of, long-of}
 use Rattle.order.specs.Limits.{within, stackNeed, countNeed}
 use Rattle.order.proofs.LimitLaws.{within-no, within-test}
 use Rattle.taking.specs.World.{world}
 use Rattle.taking.specs.Opening.{fresh, unopened}
 use Rattle.taking.specs.declared.Opened.{Opened}
-use Rattle.taking.proofs.NeedLaws.{short-of, long-of}
 use Rattle.taking.proofs.Opened.open.Statement.{statement}
 use Rattle.taking.proofs.Opened.open.Tie as tie
 

@@ -5,8 +5,8 @@ use mathlib.Core.List.{List}
 use mathlib.Core.Logic.{⊎-elim}
 use native.Mathlib.Omega.{arith}
 use lib.ListN.{length, length-set}
-use Rattle.taking.proofs.BumpLaws.{Bumping, bump-start, bump-more, bump-end}
 use borrow.Author.Needs.{needs}
+use Rattle.lists.proofs.BumpLaws.{Bumping, bump-start, bump-more, bump-end}
 use Rattle.taking.proofs.counting.bump.Statement.{statement}
 use Rattle.taking.proofs.counting.bump.Tie as tie
 

@@ -6,7 +6,8 @@ use lib.ListN.{length, drop, length-take, length-drop}
 use borrow.Author.Needs.{needs}
 use borrow.Rule.Slice.PartMut.{putMid}
 use Rattle.lists.specs.Tables.{part}
-use Rattle.taking.proofs.MoveLaws.{put-old, put-new, above-le}
+use Rattle.lists.proofs.FrontLaws.{put-old, put-new}
+use Rattle.lists.proofs.MemberLaws.{above-le}
 use Rattle.taking.proofs.moving.move_one.Statement.{statement}
 use Rattle.taking.proofs.moving.move_one.Tie as tie
 

@@ -5,7 +5,7 @@ use mathlib.Core.List.{List}
 use native.Mathlib.Omega.{arith}
 use lib.ListN.{length, length-set}
 use borrow.Author.Needs.{needs}
-use Rattle.taking.proofs.MoveLaws.{shifted, shift-none, shift-more, shift-all}
+use Rattle.lists.proofs.FrontLaws.{shifted, shift-none, shift-more, shift-all}
 use Rattle.taking.proofs.moving.to_front.Statement.{statement}
 use Rattle.taking.proofs.moving.to_front.Tie as tie
 

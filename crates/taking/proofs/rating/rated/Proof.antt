@@ -1,7 +1,9 @@
 -- `rated` meets its contract: the shift is 2^b, the division is one rounding and the multiplication is exact. Assumes nothing.
+use Prim.Native.Nat.{_*_, _%_, _^_}
+use mathlib.Core.Path.{_≡_}
 use native.Mathlib.Omega.{arith}
 use borrow.Author.Needs.{needs}
-use Rattle.units.proofs.BitLaws.{bit}
+use Rattle.lists.proofs.BitLaws.{one-shifted}
 use Rattle.taking.proofs.RoundingLaws.{miss-once, traffic-once}
 use Rattle.taking.proofs.rating.rated.Statement.{statement}
 use Rattle.taking.proofs.rating.rated.Tie as tie
@@ -11,8 +13,9 @@ returns c =
     let a = c .before .before .before .before .args in
     let m = a .misses in
     let b = a .b .0 in
+    let power : 1 * 2 ^ b % 4294967296 ≡ 2 ^ b = one-shifted 32 b (omega arith) in
     simp (
-      bit b (omega arith),
+      power,
       miss-once m (a .taken) b (omega arith) (omega arith) (omega arith) (omega arith),
       traffic-once m (a .taken) b (omega arith) (omega arith) (omega arith) (omega arith),
     )

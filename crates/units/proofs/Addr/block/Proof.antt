@@ -1,9 +1,10 @@
 -- `Addr::block` meets its contract: a shift divides by the power, and shifts by 32 places and more leave nothing. Assumes nothing.
 use borrow.Author.Needs.{needs}
+use Prim.Native.Nat.{_<_}
 use mathlib.Core.Path.{refl, sym}
 use native.Mathlib.Omega.{arith}
+use Rattle.lists.proofs.BitLaws.{shifted-out}
 use Rattle.cache.specs.Cache.{blockOf}
-use Rattle.units.proofs.BitLaws.{shifted-out}
 use Rattle.units.proofs.Addr.block.Statement.{statement}
 use Rattle.units.proofs.Addr.block.Tie as tie
 
@@ -13,7 +14,10 @@ returns c = refl
 
 returns-2 : tie.Need-returns-2
 unfolding blockOf
-returns-2 c = let a = c .before .args in sym (shifted-out (a .self .0) (a .b .0) (omega arith) (omega arith))
+returns-2 c =
+    let a = c .before .args in
+    let small : a .self .0 < 4294967296 = omega arith in
+    sym (shifted-out 32 (a .b .0) small (omega arith))
 
 -- closed by search
 pub block-spec : {M : Type 1} → statement M

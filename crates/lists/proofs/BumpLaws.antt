@@ -1,4 +1,4 @@
--- The turns of `bump`: what holds after s of its turns, and what that comes to where it ends.
+-- Places of a table that go up by one in turn, up to one of them (`Bumped`): what holds after s turns, and what that comes to at the end.
 -- Assumes nothing.
 use Prim.Native.Nat.{ℕ, _+_, _≤_, _<_, min}
 use mathlib.Core.Path.{_≡_, refl, ap, _∙_}
@@ -8,8 +8,8 @@ use lib.Dec.{eqb}
 use lib.ListN.{length, getD, set}
 use lib.Seq.{getD-set-same, getD-set-other}
 use borrow.Author.Tests.{eqb-true, eqb-false}
+use Rattle.lists.specs.Tables.{Bumped}
 use Rattle.lists.proofs.Cases.{cases}
-use Rattle.taking.specs.Parts.{Bumped}
 
 -- s places from base on have one more, and the others are as they were
 pub record Bumping (base s : ℕ) (old new : List ℕ) : Type 0 where
