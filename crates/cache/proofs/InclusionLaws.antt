@@ -31,17 +31,18 @@ both-empty s w s′ w′ = ([], holds-empty s w, holds-empty s′ w′)
 pub both-step : (s w s′ w′ : ℕ) (c c′ : Sets) (e : Event) → Both s w s′ w′ c c′ → Both s w s′ w′ (cacheStep s w c e) (cacheStep s′ w′ c′ e)
 both-step s w s′ w′ c c′ e (st, h, h′) = (stackStep st e, holds-step s w c st e h, holds-step s′ w′ c′ st e h′)
 
-module _ (s w s′ w′ : ℕ) (sets : s ≤ s′) (ways : w ≤ w′) where
-  shallower : (x : ℕ) (st : List ℕ) → depth s′ x st ≤ depth s x st
-  shallower x st =
-      length-keep-le (λ y. eqb (setOf s′ x) (setOf s′ y)) (λ y. eqb (setOf s x) (setOf s y))
-      (λ y e. eq-eqb (setOf s x) (setOf s y) (set-fewer s s′ sets x y (eqb-true (setOf s′ x) (setOf s′ y) e))) (above x st)
+-- at more sets a block is no deeper
+pub depth-falls : (s s′ : ℕ) → s ≤ s′ → (x : ℕ) (st : List ℕ) → depth s′ x st ≤ depth s x st
+depth-falls s s′ sets x st =
+    length-keep-le (λ y. eqb (setOf s′ x) (setOf s′ y)) (λ y. eqb (setOf s x) (setOf s y))
+    (λ y e. eq-eqb (setOf s x) (setOf s y) (set-fewer s s′ sets x y (eqb-true (setOf s′ x) (setOf s′ y) e))) (above x st)
 
+module _ (s w s′ w′ : ℕ) (sets : s ≤ s′) (ways : w ≤ w′) where
   place-hits : (st : List ℕ) (e : Event) → HitToo (verdict w (stackPlace s st e)) (verdict w′ (stackPlace s′ st e))
   place-hits st (touch x) =
       cases (mem x st)
       (λ e. simp e (λ h. cases (ltb (depth s x st) w)
-      (λ f. let g = ltb-true (depth s x st) w f in let l = shallower x st in simp (lt-ltb (depth s′ x st) w′ (omega arith)))
+      (λ f. let g = ltb-true (depth s x st) w f in let l = depth-falls s s′ sets x st in simp (lt-ltb (depth s′ x st) w′ (omega arith)))
       (λ f. absurd (false≢true (simp f at h)))))
       (λ e. simp e (λ h. absurd (false≢true h)))
 

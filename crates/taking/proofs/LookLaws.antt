@@ -11,15 +11,15 @@ use lib.Count.{trailingZeros}
 use lib.Dec.{eqb, leb}
 use lib.ListN.{length, take, getD, set, length-set, length-take}
 use lib.Seq.{length-take-le, take-all, getD-set-same, getD-set-other}
-use borrow.Author.Tests.{eq-eqb, eqb-true, eqb-false, ne-eqb, leb-true, leb-false}
+use borrow.Author.Tests.{eqb-true, eqb-false, ne-eqb, leb-true, leb-false}
 use Rattle.lists.specs.Members.{mem, above, keep}
 use Rattle.lists.specs.Tables.{Bumped}
 use Rattle.lists.proofs.Cases.{cases}
-use Rattle.lists.proofs.MemberLaws.{length-keep, length-keep-le, absent-above, found-above, absent-suc, count-suc}
+use Rattle.lists.proofs.MemberLaws.{length-keep, absent-above, found-above, absent-suc, count-suc}
 use Rattle.lists.proofs.PartLaws.{part-at, length-part}
 use Rattle.cache.specs.Cache.{setOf}
 use Rattle.cache.specs.Stack.{depth}
-use Rattle.cache.proofs.SetLaws.{set-fewer, shared}
+use Rattle.cache.proofs.SetLaws.{shared}
 use Rattle.order.specs.Limits.{sizes, rows}
 use Rattle.taking.specs.Places.{usedOf, stackAt, depthAt}
 use Rattle.taking.specs.Parts.{Looked, Fit}
@@ -59,12 +59,6 @@ length-stack v st m k f h = length-part (k * v .order .room) (usedOf v k) st (om
 
 pub read-stack : (v : Opened) (st : List ℕ) (k i : ℕ) → i < usedOf v k → getD (stackAt v st k) i 0 ≡ getD st (k * v .order .room + i) 0
 read-stack v st k i h = part-at (k * v .order .room) (usedOf v k) st i h
-
--- at more sets a block is no deeper
-pub depth-falls : (s t : ℕ) → s ≤ t → (x : ℕ) (l : List ℕ) → depth t x l ≤ depth s x l
-depth-falls s t h x l =
-    length-keep-le (λ y. eqb (setOf t x) (setOf t y)) (λ y. eqb (setOf s x) (setOf s y))
-    (λ y e. eq-eqb (setOf s x) (setOf s y) (set-fewer s t h x y (eqb-true (setOf t x) (setOf t y) e))) (above x l)
 
 module _ (v : Opened) (st : List ℕ) (x : ℕ → ℕ) (m k : ℕ) (f : Fit v (length st) m) (h : k < sizes (v .order)) where
   pub walk-start : (ps ds : List ℕ) → Sizes v st x k ps ds → Walking v st x k 0 ds

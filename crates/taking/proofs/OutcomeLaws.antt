@@ -18,6 +18,7 @@ use Rattle.lists.proofs.RaiseLaws.{groups-same}
 use Rattle.lists.proofs.TestLaws.{areGiven, first-then, settled-done, settled-not, any-same, any-not}
 use Rattle.cache.specs.Cache.{blockOf, ref}
 use Rattle.cache.proofs.SizeLaws.{block-wider}
+use Rattle.cache.proofs.InclusionLaws.{depth-falls}
 use Rattle.order.specs.Limits.{sizes, within, rows, stackNeed, countNeed}
 use Rattle.taking.specs.Places.{usedOf, stackAt, blockAt, foundAt, depthAt, fullAt}
 use Rattle.taking.specs.Plain.{overAll, stateDone, stacksDone, countsDone}
@@ -28,7 +29,7 @@ use Rattle.taking.proofs.NeedLaws.{answer-by-sizes}
 use Rattle.taking.proofs.TakenLaws.{full-each, over-each, taken-is}
 use Rattle.taking.specs.Parts.{earlyAnswer, Fit, widerBy, Looked, foundBy, deepBy, Falling, countMost, AllRaisable, Roomed}
 use Rattle.taking.specs.declared.Opened.{Opened}
-use Rattle.taking.proofs.LookLaws.{length-stack, depth-falls}
+use Rattle.taking.proofs.LookLaws.{length-stack}
 
 module _ (v : Opened) (st : List ℕ) (x : ℕ → ℕ) (m : ℕ) (ps ds : List ℕ) (f : Fit v (length st) m) (seen : Looked v st x ps ds) where
   same-found : (k : ℕ) → k < sizes (v .order) → foundBy (v .used) ps k ≡ foundAt v st x k
