@@ -1,17 +1,17 @@
 -- Stacks of two block sizes over the same given things: that of the larger blocks is never the longer one.
 -- Assumes nothing.
-use Prim.Native.Nat.{ℕ, zero, suc, _+_, _≤_, _<_}
-use mathlib.Core.Path.{_≡_, refl, sym, ap, _∙_, subst}
+use Prim.Native.Nat.{ℕ, _+_, _≤_}
+use mathlib.Core.Path.{_≡_, sym, subst}
 use mathlib.Core.Bool.{false≢true}
-use mathlib.Core.List.{List, [], _∷_, map}
+use mathlib.Core.List.{List, [], _∷_}
 use native.Mathlib.Omega.{arith}
 use lib.ListN.{length}
 use lib.Pow.{shr-shr}
-use Rattle.lists.specs.Members.{mem, remove}
+use Rattle.lists.specs.Members.{remove}
 use Rattle.lists.specs.Runs.{after}
 use Rattle.lists.proofs.CoverLaws.{Covers, covers-step}
 use Rattle.lists.proofs.RunLaws.{after-append}
-use Rattle.cache.specs.Cache.{blockOf, Event, touch, Given, ref, eventsAt, eventsOf}
+use Rattle.cache.specs.Cache.{blockOf, Given, ref, eventsAt, eventsOf}
 use Rattle.cache.specs.Stack.{stackStep}
 
 -- larger blocks are made of smaller ones

@@ -4,7 +4,7 @@
 use Prim.Native.Nat.{ℕ, suc, _≤_}
 use mathlib.Core.Path.{_≡_, refl, sym, ap, _∙_, fun-ext}
 use mathlib.Core.Bool.{true, false≢true}
-use mathlib.Core.List.{List, [], _∷_, map}
+use mathlib.Core.List.{List, [], _∷_}
 use native.Mathlib.Omega.{arith}
 use lib.Dec.{eqb}
 use lib.ListN.{take}
@@ -15,7 +15,7 @@ use Rattle.lists.specs.Sums.{total}
 use Rattle.lists.proofs.Cases.{cases}
 use Rattle.lists.proofs.MemberLaws.{first-keep}
 use Rattle.lists.proofs.RunLaws.{kept}
-use Rattle.cache.specs.Cache.{blockOf, setOf, Event, touch, Answer, hit, miss, missed, isHit, Sets, emptySets, cacheStep, cacheAnswer, simulate}
+use Rattle.cache.specs.Cache.{setOf, Event, touch, Answer, hit, miss, missed, isHit, Sets, emptySets, cacheStep, cacheAnswer, simulate}
 use Rattle.cache.specs.Cache.{refer}
 use Rattle.cache.proofs.SetLaws.{set-fewer}
 use Rattle.cache.proofs.InclusionLaws.{HitToo, Both, both-empty, both-step, inclusion}

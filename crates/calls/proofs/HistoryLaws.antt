@@ -1,33 +1,29 @@
 -- What a world holds after `past` was taken: each block size is what the machine of one size makes of its events. A taking keeps it so.
 -- Assumes nothing.
-use Prim.Native.Nat.{ℕ, zero, suc, _+_, _-_, _*_, _≤_, _<_}
+use Prim.Native.Nat.{ℕ, _+_, _-_, _*_, _≤_, _<_}
 use mathlib.Core.Path.{_≡_, refl, sym, ap, ap₂, _∙_}
-use mathlib.Core.Bool.{Bool, true, false, cond, not, _||_}
-use mathlib.Core.List.{List, [], _∷_, _++_, append-assoc, append-nil}
+use mathlib.Core.List.{List, [], _∷_, _++_}
 use native.Mathlib.Omega.{arith}
-use lib.Dec.{eqb, ltb}
 use lib.ListN.{length, take, drop, getD}
-use borrow.Author.Tests.{eqb-false, ltb-false}
-use Rattle.lists.specs.Runs.{after, anyOn}
+use Rattle.lists.specs.Runs.{after}
 use Rattle.lists.specs.Sums.{total}
 use Rattle.lists.specs.Tables.{zeroed}
 use Rattle.lists.specs.Tests.{All≤}
 use Rattle.lists.proofs.PartLaws.{row-in}
 use Rattle.lists.proofs.RunLaws.{after-append}
-use Rattle.lists.proofs.TestLaws.{none-first, any-not}
 use Rattle.lists.proofs.ZeroLaws.{length-zeroed, getD-zeroed, part-zeroed, zeros-at}
-use Rattle.cache.specs.Cache.{Given, referred, eventsOf}
+use Rattle.cache.specs.Cache.{Given, eventsOf}
 use Rattle.cache.proofs.GivenLaws.{events-one, referred-most}
 use Rattle.order.specs.declared.Order.{Order}
-use Rattle.order.specs.Limits.{limits, within, sizes, span, stackNeed, countNeed}
-use Rattle.sizes.specs.Size.{Size, emptySize, sizeStep, isFull, isOver}
+use Rattle.order.specs.Limits.{limits, sizes, span, stackNeed, countNeed}
+use Rattle.sizes.specs.Size.{Size, emptySize, sizeStep}
 use Rattle.order.proofs.LimitLaws.{need-spans}
-use Rattle.sizes.proofs.SizeLaws.{sizeOver, total-after, length-after, roomy-after}
+use Rattle.sizes.proofs.SizeLaws.{sizeOver}
 use Rattle.taking.specs.Places.{usedOf}
-use Rattle.taking.specs.World.{World, world, sizeAt, withSizes}
+use Rattle.taking.specs.World.{World, world, sizeAt}
 use Rattle.taking.specs.Opening.{opened}
-use Rattle.taking.specs.Taking.{isForeign, eventsIn, taken, someSize, takeAnswer}
-use Rattle.calls.proofs.PassedLaws.{Passed, passed, sizeNext, total-next, fitting-next}
+use Rattle.taking.specs.Taking.{eventsIn, taken, takeAnswer}
+use Rattle.calls.proofs.PassedLaws.{passed, sizeNext, total-next, fitting-next}
 use Rattle.calls.proofs.WorldLaws.{Fitted, fitted-back, size-back, blank-back}
 
 pub record History (w : World) (past : List Given) : Type 0 where

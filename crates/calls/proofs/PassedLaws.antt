@@ -1,18 +1,16 @@
 -- What an answer of 0 says of a taking, in any world: no refusal applies, so each block size can be put back, and entries past the needs stay.
 -- Assumes nothing.
 use Prim.Native.Nat.{ℕ, _+_, _<_}
-use mathlib.Core.Path.{_≡_, refl, sym, ap, _∙_}
-use mathlib.Core.Bool.{Bool, false, not}
-use mathlib.Core.List.{List}
+use mathlib.Core.Path.{_≡_, sym, ap, _∙_}
+use mathlib.Core.Bool.{false, not}
 use native.Mathlib.Omega.{arith}
 use lib.Dec.{eqb, ltb}
 use lib.ListN.{length, drop}
 use Rattle.lists.specs.Runs.{after, anyOn}
 use Rattle.lists.specs.Sums.{total}
 use Rattle.lists.proofs.TestLaws.{none-first, any-not}
-use Rattle.cache.specs.Cache.{Given, touched, referred}
+use Rattle.cache.specs.Cache.{Given, referred}
 use Rattle.cache.proofs.GivenLaws.{touches-one}
-use Rattle.order.specs.declared.Order.{Order}
 use Rattle.order.specs.Limits.{within, sizes, stackNeed, countNeed}
 use Rattle.sizes.specs.Size.{Size, sizeStep, isFull}
 use Rattle.sizes.proofs.SizeLaws.{total-after, length-after, roomy-after}

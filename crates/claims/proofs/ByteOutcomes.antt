@@ -1,7 +1,7 @@
 -- What the laws of bytes come to for the program's reader, put as the claims say it. Assumes nothing.
 use Prim.Native.Nat.{ℕ, _<_}
 use mathlib.Core.Path.{_≡_, ap}
-use mathlib.Core.Bool.{Bool, true, false, not}
+use mathlib.Core.Bool.{true, false, not}
 use mathlib.Core.List.{List, _∷_, _++_}
 use lib.Dec.{eqb}
 use lib.ListN.{length, getD}

@@ -1,6 +1,6 @@
 -- Some inputs and their lines: each is computed. Assumes nothing.
 use mathlib.Core.Path.{_≡_, refl}
-use mathlib.Core.List.{List, [], _∷_, map}
+use mathlib.Core.List.{[], _∷_, map}
 use Rattle.lines.specs.Bytes.{text}
 use Rattle.feeding.specs.Lines.{linesOf}
 

@@ -1,18 +1,15 @@
 -- The program's reader: it is one of those that the laws are about, and over lines it is the run of the program. Assumes nothing.
-use Prim.Native.Nat.{ℕ, _<_}
+use Prim.Native.Nat.{ℕ}
 use mathlib.Core.Path.{_≡_, refl, sym, ap, _∙_, subst}
-use mathlib.Core.Bool.{Bool, true, false, cond, not}
-use mathlib.Core.List.{List, [], _∷_, _++_}
-use native.Mathlib.Omega.{arith}
+use mathlib.Core.Bool.{Bool, cond, not}
+use mathlib.Core.List.{List, [], _∷_}
 use lib.Dec.{eqb}
-use lib.ListN.{length, replicate}
+use lib.ListN.{replicate}
 use borrow.Author.Tests.{eqb-true, eqb-false, eq-eqb, ne-eqb}
-use Rattle.lists.proofs.Cases.{cases, picked}
+use Rattle.lists.proofs.Cases.{cases}
 use Rattle.lines.specs.Bytes.{longest}
-use Rattle.reading.specs.declared.Reading.{Reading}
-use Rattle.reading.specs.declared.Step.{Step}
-use Rattle.reading.specs.Reading.{Desk, desk, Outcome, outcome, stays, start as noLine}
-use Rattle.reading.specs.Step.{isTooMany, inTrace, stepOf, longLine, ended as noMore}
+use Rattle.reading.specs.Reading.{Desk, desk, Outcome, outcome, start as noLine}
+use Rattle.reading.specs.Step.{stepOf, longLine, ended as noMore}
 use Rattle.reading.proofs.StepLaws.{long-line-is-step}
 use Rattle.runs.specs.Input.{Runs, runFrom}
 use Rattle.runs.proofs.InputLaws.{run-there, long-refused}

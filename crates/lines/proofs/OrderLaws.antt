@@ -14,21 +14,7 @@ use Rattle.lists.proofs.Cases.{cases}
 use Rattle.lists.proofs.CompareLaws.{at-most-cut, at-least-cut}
 use Rattle.lines.specs.Bytes.{isDecimal}
 use Rattle.units.specs.Refusals.{badOrderLine}
-use Rattle.lines.specs.OrderLine.{
-  startsWith,
-  allDecimal,
-  isNumber,
-  decimal,
-  valueOf,
-  after,
-  isNumbered,
-  isWhole,
-  numberLines,
-  wholeLines,
-  numbered,
-  whole,
-  orderLineOf,
-}
+use Rattle.lines.specs.OrderLine.{startsWith, allDecimal, isNumber, decimal, valueOf, after, isNumbered, isWhole, numberLines, wholeLines, numbered, whole, orderLineOf}
 use Rattle.lines.specs.Parts.{numberOf, numberAfter}
 use Rattle.lines.specs.declared.OrderLine.{OrderLine}
 use Rattle.lines.specs.declared.OrderLine.the-variants.{Refused}

@@ -1,6 +1,6 @@
 -- Rows of counts of which the first goes up, one row or groups of rows in one go; tests over groups; and rows that are written over themselves.
 -- Not here: rows whose depths differ (RaiseLaws). Assumes nothing.
-use Prim.Native.Nat.{ℕ, zero, suc, _+_, _*_, _≤_, _<_}
+use Prim.Native.Nat.{ℕ, zero, suc, _+_, _*_, _<_}
 use mathlib.Core.Path.{_≡_, refl, sym, ap, _∙_, subst}
 use mathlib.Core.Bool.{Bool, true, false, _&&_, _||_, or-false, or-assoc}
 use mathlib.Core.List.{List}

@@ -1,18 +1,15 @@
 -- The program from bytes to bytes: what is held after the bytes of an input and its end, printed, is what its lines alone call for.
 -- Assumes nothing.
-use Prim.Native.Nat.{ℕ, zero, suc, _+_, _-_, _≤_, _<_}
+use Prim.Native.Nat.{ℕ, zero, suc, _+_, _-_, _≤_}
 use mathlib.Core.Path.{_≡_, refl, sym, ap, ap₂, _∙_, subst}
 use mathlib.Core.Bool.{Bool, true, cond}
 use mathlib.Core.List.{List, [], _∷_, _++_, append-assoc}
 use native.Mathlib.Omega.{arith}
 use lib.Dec.{eqb}
-use lib.ListN.{length}
 use borrow.Author.Tests.{eqb-true, eqb-false, eq-eqb, ne-eqb}
-use Rattle.lists.specs.Sums.{total}
 use Rattle.lists.specs.Tests.{All≤}
 use Rattle.lists.proofs.Cases.{cases}
 use Rattle.lists.proofs.TestLaws.{all-yes}
-use Rattle.cache.specs.Cache.{Given, referred, missesOver}
 use Rattle.order.specs.declared.Order.{Order}
 use Rattle.taking.specs.Opening.{unopened}
 use Rattle.taking.specs.Questions.{has, asked, missesOf}

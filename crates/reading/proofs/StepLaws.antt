@@ -1,11 +1,11 @@
 -- From what the calls below promise to the outcome of a line, and that a line too long for the buffer is told without its bytes.
 -- Assumes nothing.
-use Prim.Native.Nat.{ℕ, _+_, _≤_, _<_}
-use mathlib.Core.Path.{_≡_, refl, sym, ap, ap₂, _∙_}
-use mathlib.Core.Bool.{Bool, true, false, cond, _||_}
+use Prim.Native.Nat.{ℕ, _≤_, _<_}
+use mathlib.Core.Path.{_≡_, sym, ap, ap₂, _∙_}
+use mathlib.Core.Bool.{true, false}
 use mathlib.Core.List.{List}
 use native.Mathlib.Omega.{arith}
-use lib.Dec.{eqb, ltb}
+use lib.Dec.{eqb}
 use lib.ListN.{length}
 use borrow.Author.Tests.{eq-eqb, ne-eqb, eqb-false, lt-ltb}
 use Rattle.lists.proofs.Cases.{cases}
@@ -23,7 +23,7 @@ use Rattle.lines.specs.Bytes.{longest}
 use Rattle.lines.specs.TraceLine.{traceLineOf}
 use Rattle.lines.specs.OrderLine.{orderLineOf, countsKind}
 use Rattle.reading.specs.Reading.{kindsNext, beginNext, traceNext, withStage, withReading, worldOf, withWorld}
-use Rattle.reading.specs.Reading.{Desk, desk, Outcome, outcome, answered, stays}
+use Rattle.reading.specs.Reading.{Desk, desk, outcome, answered, stays}
 use Rattle.reading.specs.Head.{begun, beginAt, orderOf, opening}
 use Rattle.reading.specs.Meaning.{gives, skips, fails, meant}
 use Rattle.reading.specs.Step.{traceStep, inTrace, isTooMany, stepOf, longLine}

@@ -1,8 +1,8 @@
 -- Opening an order over the program's tables: 2 comes exactly where sizes × room is more than the stack table has, and 3 never comes.
 -- Assumes nothing.
-use Prim.Native.Nat.{ℕ, _*_, _≤_}
-use mathlib.Core.Path.{_≡_, refl, ap₂, _∙_}
-use mathlib.Core.Bool.{Bool, true, false, cond, not}
+use Prim.Native.Nat.{_*_, _≤_}
+use mathlib.Core.Path.{_≡_}
+use mathlib.Core.Bool.{true, false, not}
 use mathlib.Core.List.{[], _∷_}
 use native.Mathlib.Nat.{mul-le-mul}
 use native.Mathlib.Omega.{arith}
@@ -14,7 +14,7 @@ use Rattle.lists.proofs.Cases.{cases}
 use Rattle.lists.proofs.TestLaws.{all-facts}
 use Rattle.units.specs.Refusals.{outsideLimits, shortStacks}
 use Rattle.order.specs.declared.Order.{Order}
-use Rattle.order.specs.Limits.{limits, within, sizes, rows, stackNeed, countNeed}
+use Rattle.order.specs.Limits.{limits, within, sizes, rows, countNeed}
 use Rattle.taking.specs.World.{World}
 use Rattle.taking.specs.Opening.{openAnswer}
 use Rattle.reading.specs.Tables.{stackEntries, countEntries, Allotted}

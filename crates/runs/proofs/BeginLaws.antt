@@ -1,8 +1,8 @@
 -- The begin line opens the order of the lines before it; then a step on any line before the trace. Assumes nothing.
-use Prim.Native.Nat.{ℕ, _+_, _<_}
+use Prim.Native.Nat.{ℕ, _<_}
 use mathlib.Core.Path.{_≡_, refl, sym, ap, _∙_, subst}
-use mathlib.Core.Bool.{Bool, cond, _||_, true≢false}
-use mathlib.Core.List.{List, []}
+use mathlib.Core.Bool.{cond, _||_, true≢false}
+use mathlib.Core.List.{List}
 use native.Mathlib.Omega.{arith}
 use lib.Dec.{eqb}
 use lib.ListN.{length}
@@ -25,7 +25,6 @@ use Rattle.reading.specs.Step.{inTrace, linesMost, isTooMany, counted, stepOf}
 use Rattle.runs.specs.Input.{orderIn, kindsIn}
 use Rattle.runs.specs.Endings.{orderAnswer}
 use Rattle.runs.proofs.HeaderLaws.{Heading, Begun, Headed, so-far, stage-is, refuses, number-headed, kinds-headed}
-use Rattle.calls.proofs.HistoryLaws.{History}
 use Rattle.calls.proofs.CallLaws.{history-opened}
 
 module _ (d : Desk) (said : List OrderLine) (h : Heading (d .reading) said) where

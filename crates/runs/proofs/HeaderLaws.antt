@@ -5,7 +5,7 @@ use mathlib.Core.Bool.{true, false, cond, true≢false}
 use mathlib.Core.List.{List, [], _∷_, _++_}
 use native.Mathlib.Omega.{arith}
 use lib.Dec.{eqb}
-use lib.ListN.{length, take, getD, set, length-set, length-take}
+use lib.ListN.{length, take, getD, length-set, length-take}
 use borrow.Author.Tests.{eqb-true}
 use Rattle.lists.proofs.Cases.{both-picked}
 use Rattle.lists.proofs.LengthLaws.{six-cases}

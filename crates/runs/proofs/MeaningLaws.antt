@@ -15,7 +15,6 @@ use Rattle.lines.specs.declared.Kinds.{Kinds}
 use Rattle.lines.specs.declared.TraceLine.{TraceLine}
 use Rattle.lines.specs.OrderLine.{countsKind}
 use Rattle.lines.proofs.CaseLaws.{trace-cases}
-use Rattle.reading.specs.declared.Tally.{Tally}
 use Rattle.reading.specs.Meaning.{Meaning, gives, skips, fails, meant, meaningOf, tallied, givenBy, givenIn, skippedBy, talliedIn}
 use Rattle.reading.specs.Reading.{withSkipped, Desk, worldOf}
 use Rattle.reading.specs.Step.{inTrace, linesMost}

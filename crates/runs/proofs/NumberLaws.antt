@@ -9,7 +9,7 @@ use lib.Dec.{eqb}
 use borrow.Author.Tests.{leb-true, leb-false}
 use Rattle.lists.specs.Tests.{settled}
 use Rattle.lists.proofs.TestLaws.{settled-not}
-use Rattle.lists.proofs.Cases.{picked, both-picked}
+use Rattle.lists.proofs.Cases.{picked}
 use Rattle.taking.specs.Opening.{openAnswer}
 use Rattle.lines.specs.declared.Kinds.{Kinds}
 use Rattle.lines.specs.declared.Kinds.the-variants.{All, Fetch, Data}
@@ -21,7 +21,7 @@ use Rattle.reading.specs.declared.Step.{Step}
 use Rattle.reading.specs.Reading.{kindsNext, beginNext, withLines}
 use Rattle.reading.specs.Reading.{Desk, worldOf, withReading, Outcome, outcome, answered, stays}
 use Rattle.reading.specs.Meaning.{Meaning, meaningOf}
-use Rattle.reading.specs.Head.{numberAt, kindsAt, orderOf, begun, opening, beginAt, orderStep}
+use Rattle.reading.specs.Head.{numberAt, kindsAt, orderOf, begun, beginAt, orderStep}
 use Rattle.reading.specs.Step.{lineAnswer, followed, traceStep, inTrace, linesMost, isTooMany, counted, stepOf, Steps}
 
 -- a line that was counted and is read

@@ -21,7 +21,6 @@ use Rattle.taking.specs.declared.Counted.{Counted}
 use Rattle.lines.specs.declared.Kinds.{Kinds}
 use Rattle.lines.specs.declared.OrderLine.{OrderLine}
 use Rattle.lines.specs.OrderLine.{orderLineOf}
-use Rattle.reading.specs.declared.Reading.{Reading}
 use Rattle.reading.specs.declared.Step.{Step}
 use Rattle.reading.specs.declared.Tally.{Tally}
 use Rattle.reading.specs.Reading.{traceNext, start, Desk, desk, worldOf, Outcome, stays}

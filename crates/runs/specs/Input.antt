@@ -3,7 +3,7 @@
 use Prim.Native.Nat.{ℕ, _<_}
 use mathlib.Core.Path.{_≡_}
 use mathlib.Core.Bool.{Bool, true, false, cond}
-use mathlib.Core.List.{List, [], _∷_, _++_}
+use mathlib.Core.List.{List, [], _∷_}
 use lib.Dec.{eqb}
 use lib.ListN.{length, getD}
 use Rattle.cache.specs.Cache.{Given}
@@ -14,7 +14,6 @@ use Rattle.lines.specs.declared.Kinds.the-variants.{All}
 use Rattle.lines.specs.declared.OrderLine.{OrderLine}
 use Rattle.lines.specs.declared.OrderLine.the-variants.{Bmin, Bmax, Smax, Ways, Room, Refs, Kinds as Counting, Begin, Refused as BadOrder}
 use Rattle.lines.specs.OrderLine.{orderLineOf}
-use Rattle.reading.specs.declared.Reading.{Reading}
 use Rattle.reading.specs.declared.Step.{Step}
 use Rattle.reading.specs.Meaning.{Meaning, meaningOf, givenIn}
 use Rattle.reading.specs.Reading.{Desk, Outcome, outcome, stays}

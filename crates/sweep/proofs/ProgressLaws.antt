@@ -1,17 +1,17 @@
 -- Why the run ends: each byte that is taken leaves fewer that an input may have. Then the slices that were read. Assumes nothing.
 use Prim.Native.Nat.{ℕ, _+_, _-_, _*_, _≤_, _<_}
 use mathlib.Core.Path.{_≡_, refl, sym, ap, _∙_, subst}
-use mathlib.Core.Bool.{Bool, true, false, cond, not}
+use mathlib.Core.Bool.{cond, not}
 use mathlib.Core.List.{List, [], _∷_, _++_, append-nil, append-assoc}
 use native.Mathlib.Omega.{arith}
 use lib.Dec.{eqb, leb}
-use lib.ListN.{length, take, set}
+use lib.ListN.{length, take}
 use borrow.Author.Tests.{ne-eqb, eqb-true, eqb-false, leb-true, leb-false}
 use Rattle.lists.proofs.Cases.{cases}
 use Rattle.lines.specs.Bytes.{longest}
 use Rattle.reading.specs.declared.Reading.{Reading}
 use Rattle.reading.specs.Reading.{desk, Outcome, outcome}
-use Rattle.reading.specs.Step.{linesMost, isTooMany, stepOf}
+use Rattle.reading.specs.Step.{linesMost, isTooMany}
 use Rattle.runs.proofs.NumberLaws.{step-reported}
 use Rattle.feeding.specs.declared.Feeding.{Feeding}
 use Rattle.feeding.specs.Lines.{lf, joined}

@@ -18,7 +18,6 @@ use Rattle.lists.proofs.Cases.{cases}
 use Rattle.lists.proofs.MemberLaws.{length-keep, absent-above, found-above, absent-suc, count-suc}
 use Rattle.lists.proofs.PartLaws.{part-at, length-part}
 use Rattle.cache.specs.Cache.{setOf}
-use Rattle.cache.specs.Stack.{depth}
 use Rattle.cache.proofs.SetLaws.{shared}
 use Rattle.order.specs.Limits.{sizes, rows}
 use Rattle.taking.specs.Places.{usedOf, stackAt, depthAt}

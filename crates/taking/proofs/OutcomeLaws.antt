@@ -1,12 +1,12 @@
 -- From what the walks found to the outcome of a taking: the code's tests are the page's, and the answer decides the rest.
 -- Assumes nothing.
-use Prim.Native.Nat.{ℕ, zero, suc, _+_, _*_, _≤_, _<_}
+use Prim.Native.Nat.{ℕ, _+_, _*_, _≤_, _<_}
 use mathlib.Core.Path.{_≡_, refl, sym, ap, ap₂, fun-ext, _∙_}
-use mathlib.Core.Bool.{Bool, true, false, cond, not, _&&_}
+use mathlib.Core.Bool.{Bool, false, cond, not, _&&_}
 use mathlib.Core.List.{List, [], _∷_}
 use native.Mathlib.Omega.{arith}
 use lib.Dec.{eqb, ltb, leb}
-use lib.ListN.{length, getD, replicate}
+use lib.ListN.{length, getD}
 use borrow.Author.Tests.{ne-eqb, ltb-true, lt-ltb, leb-false, lt-leb}
 use Rattle.lists.specs.Members.{above}
 use Rattle.lists.specs.Tables.{overRow, overGroups, raisedGroups}

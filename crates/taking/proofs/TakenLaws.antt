@@ -1,12 +1,12 @@
 -- The taking of each block size by itself is the taking of all at once that the private functions make: the tests of 6 and 7, and what is left.
 -- Assumes nothing.
-use Prim.Native.Nat.{ℕ, _+_, _-_, _*_, _≤_, _<_}
+use Prim.Native.Nat.{ℕ, _-_, _*_, _≤_, _<_}
 use mathlib.Core.Path.{_≡_, ap, ap₂, _∙_}
 use mathlib.Core.Bool.{Bool, false, cond, not, _&&_, _||_, or-false}
-use mathlib.Core.List.{List, [], _∷_, _++_, append-nil}
+use mathlib.Core.List.{List, [], _∷_}
 use native.Mathlib.Omega.{arith}
 use lib.Dec.{eqb, ltb, leb}
-use lib.ListN.{length, replicate}
+use lib.ListN.{length}
 use Rattle.lists.specs.Tables.{part, padded, overRow}
 use Rattle.lists.specs.Tests.{anyTo, firstOf}
 use Rattle.lists.proofs.Cases.{cases}

@@ -1,11 +1,11 @@
 -- `copy_line` meets its contract: each turn copies one byte. Assumes nothing.
 use Prim.Native.Nat.{_≤_, _<_, _-_, _+_}
-use mathlib.Core.Path.{_≡_, refl, sym, ap, _∙_}
+use mathlib.Core.Path.{_≡_, refl}
 use mathlib.Core.Logic.{⊎-elim}
 use native.Mathlib.Omega.{arith}
 use lib.ListN.{length, length-set}
 use borrow.Author.Needs.{needs}
-use Rattle.feeding.proofs.CopyLaws.{Copying, length-copying, copy-none, copy-more, copy-here, copy-all}
+use Rattle.feeding.proofs.CopyLaws.{Copying, copy-none, copy-more, copy-here, copy-all}
 use Rattle.feeding.proofs.copy_line.Statement.{statement}
 use Rattle.feeding.proofs.copy_line.Tie as tie
 

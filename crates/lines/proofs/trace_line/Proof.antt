@@ -11,18 +11,7 @@ use borrow.Author.Needs.{needs}
 use Rattle.lists.proofs.CompareLaws.{range-yes, range-below, range-above}
 use Rattle.lines.specs.Bytes.{between}
 use Rattle.lines.specs.TraceLine.{inAddress, traceLineOf}
-use Rattle.lines.proofs.TraceLaws.{
-  too-long,
-  line-empty,
-  line-label-wrong,
-  start-within,
-  line-no-gap,
-  line-no-address,
-  line-address,
-  address-end,
-  address-blank,
-  address-wrong,
-}
+use Rattle.lines.proofs.TraceLaws.{too-long, line-empty, line-label-wrong, start-within, line-no-gap, line-no-address, line-address, address-end, address-blank, address-wrong}
 use Rattle.lines.proofs.SaidLaws.{trace-says}
 use Rattle.lines.proofs.trace_line.Statement.{statement}
 use Rattle.lines.proofs.trace_line.Tie as tie

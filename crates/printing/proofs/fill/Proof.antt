@@ -1,8 +1,8 @@
 -- `fill` meets its contract: each turn puts one byte of the form, or one number. Assumes nothing.
-use Prim.Native.Nat.{ℕ, _≤_, _<_, _-_, _+_}
-use mathlib.Core.Path.{_≡_, refl, sym, ap, _∙_, subst}
+use Prim.Native.Nat.{ℕ, _-_}
+use mathlib.Core.Path.{subst}
 use native.Mathlib.Omega.{arith}
-use lib.ListN.{length, length-set}
+use lib.ListN.{length}
 use borrow.Author.Needs.{needs}
 use Rattle.printing.specs.Printed.{decimalOf}
 use Rattle.printing.specs.Forms.{Puts}

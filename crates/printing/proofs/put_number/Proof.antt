@@ -1,10 +1,9 @@
 -- `put_number` meets its contract: what `io::decimal` puts is the decimal of the number. Assumes nothing.
-use Prim.Native.Nat.{ℕ, _≤_, _<_, _-_, _+_}
-use mathlib.Core.Path.{_≡_, refl, sym, ap, _∙_, subst}
+use Prim.Native.Nat.{ℕ, _-_}
+use mathlib.Core.Path.{ap, _∙_, subst}
 use mathlib.Core.List.{List}
 use native.Mathlib.Omega.{arith}
 use lib.ListN.{length}
-use Rattle.printing.specs.Printed.{decimalOf}
 use Rattle.printing.specs.Forms.{Puts}
 use Rattle.printing.proofs.NumberLaws.{decimal-is, few-places, length-digits}
 use borrow.Author.Needs.{needs}

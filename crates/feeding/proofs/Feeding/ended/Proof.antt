@@ -1,6 +1,5 @@
 -- `ended` meets its contract: after a refusal nothing changes. Assumes nothing.
-use mathlib.Core.Path.{_≡_, ap}
-use mathlib.Core.List.{List}
+use mathlib.Core.Path.{ap}
 use borrow.Author.Tests.{eq-eqb, ne-eqb}
 use borrow.Author.Needs.{needs}
 use Rattle.reading.specs.declared.Step.{Step}

@@ -7,7 +7,7 @@ use mathlib.Core.List.{List}
 use mir.Val
 use mir.Syntax
 use native.Mathlib.Omega.{arith}
-use lib.ListN.{length, drop, take, drop-of-length-le}
+use lib.ListN.{length, drop, drop-of-length-le}
 use lib.Seq.{length-take-le}
 use borrow.Author.Needs.{needs}
 use borrow.Author.Tests.{ne-eqb, le-leb, lt-leb}

@@ -11,19 +11,7 @@ use Rattle.lists.proofs.CompareLaws.{range-yes, range-below, range-above}
 use Rattle.lines.specs.OrderLine.{allDecimal, decimal}
 use Rattle.lines.specs.Parts.{numberOf}
 use Rattle.lines.specs.declared.decimal.Number.the-variants.{Value}
-use Rattle.lines.proofs.OrderLaws.{
-  digits-more,
-  digits-other,
-  digits-end,
-  decimal-more,
-  decimal-end,
-  number-none,
-  number-long,
-  number-zero,
-  number-zeros,
-  number-other,
-  number-right,
-}
+use Rattle.lines.proofs.OrderLaws.{digits-more, digits-other, digits-end, decimal-more, decimal-end, number-none, number-long, number-zero, number-zeros, number-other, number-right}
 use Rattle.lines.proofs.decimal.number_from.Statement.{statement}
 use Rattle.lines.proofs.decimal.number_from.Tie as tie
 

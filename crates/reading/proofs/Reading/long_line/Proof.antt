@@ -1,5 +1,5 @@
 -- `long_line` meets its contract: 26 first, then the stage decides. Assumes nothing.
-use mathlib.Core.Path.{_≡_, sym, ap, _∙_}
+use mathlib.Core.Path.{sym, ap, _∙_}
 use borrow.Author.Tests.{eq-eqb, ne-eqb}
 use Rattle.units.specs.Refusals.{badOrderLine, badTraceLine, tooManyLines}
 use Rattle.reading.specs.Reading.{traceNext, answered}

@@ -1,7 +1,6 @@
 -- `counting` meets its contract: the stage decides. Assumes nothing.
 use borrow.Author.Tests.{eq-eqb, ne-eqb}
 use Rattle.reading.specs.Reading.{kindsNext}
-use borrow.Author.Needs.{needs}
 use Rattle.reading.proofs.heading.counting.Statement.{statement}
 use Rattle.reading.proofs.heading.counting.Tie as tie
 

@@ -1,5 +1,5 @@
 -- `trace_step` meets its contract: what the line reads as picks the case. Assumes nothing.
-use mathlib.Core.Path.{_≡_, refl, sym, ap, _∙_}
+use mathlib.Core.Path.{_≡_, sym, ap, _∙_}
 use Rattle.lines.specs.declared.TraceLine.{TraceLine}
 use Rattle.lines.specs.TraceLine.{traceLineOf}
 use Rattle.lines.proofs.SaidLaws.{trace-said-unique}

@@ -1,7 +1,7 @@
 -- `run` meets its contract, and ends. Its invariant: the slices read so far leave what is held, and nothing is refused. Its measure: the bytes
 -- that an input may still have. Assumes nothing.
-use Prim.Native.Nat.{ℕ, _<_}
-use mathlib.Core.Path.{_≡_, refl, sym, ap, _∙_}
+use Prim.Native.Nat.{ℕ}
+use mathlib.Core.Path.{_≡_, refl, sym, _∙_}
 use mathlib.Core.Bool.{true≢false}
 use mathlib.Core.List.{List}
 use native.Mathlib.Omega.{arith}
