@@ -1,7 +1,7 @@
 -- What the hits of a direct-mapped cache can be dropped for: demand 3, second and third parts.
 -- The idea: where (s, 1) hits, the block is already the most recent of its set in every cache with at least as many sets,
 -- so dropping the reference changes nothing there. Assumes nothing.
-use Prim.Native.Nat.{ℕ, suc, _≤_}
+use Prim.Native.Nat.{ℕ, suc, _+_, _≤_}
 use mathlib.Core.Path.{_≡_, refl, sym, ap, _∙_, fun-ext}
 use mathlib.Core.Bool.{true, false≢true}
 use mathlib.Core.List.{List, [], _∷_}
@@ -12,7 +12,7 @@ use borrow.Author.Tests.{eqb-true, eq-eqb}
 use Rattle.lists.specs.Members.{mem, keep}
 use Rattle.lists.specs.Runs.{Each, without}
 use Rattle.lists.specs.Sums.{total}
-use Rattle.lists.proofs.Cases.{cases}
+use Rattle.lists.proofs.Cases.{cases, picked}
 use Rattle.lists.proofs.MemberLaws.{first-keep}
 use Rattle.lists.proofs.RunLaws.{kept}
 use Rattle.cache.specs.Cache.{setOf, Event, touch, Answer, hit, miss, missed, isHit, Sets, emptySets, cacheStep, cacheAnswer, simulate}
@@ -47,14 +47,18 @@ unchanged s s′ w more c₁ c (touch x) (st, h, h′) hits = fun-ext same
     same : (i : ℕ) → cacheStep s′ (suc w) c (touch x) i ≡ c i
     same i = cases (eqb i (setOf s′ x)) (λ e. simp e (own i (eqb-true i (setOf s′ x) e))) (λ e. simp e)
 
+hit-is-no-miss : (a : Answer) → isHit a ≡ true → missed a ≡ 0
+hit-is-no-miss hit e = refl
+hit-is-no-miss miss e = absurd (false≢true e)
+
 misses-without : (r q : List Answer) → Each HitToo r q → total missed (without isHit r q) ≡ total missed q
 misses-without [] [] h = refl
 misses-without [] (b ∷ q) h = absurd h
 misses-without (a ∷ r) [] h = absurd h
-misses-without (hit ∷ r) (hit ∷ q) h = omega (arith, misses-without r q (h .1))
-misses-without (hit ∷ r) (miss ∷ q) h = absurd (false≢true (h .0 refl))
-misses-without (miss ∷ r) (hit ∷ q) h = omega (arith, misses-without r q (h .1))
-misses-without (miss ∷ r) (miss ∷ q) h = omega (arith, misses-without r q (h .1))
+misses-without (a ∷ r) (b ∷ q) h =
+    picked (λ (l : List Answer). total missed l ≡ missed b + total missed q) (isHit a)
+    (λ e. omega (arith, hit-is-no-miss b (h .0 e), misses-without r q (h .1)))
+    (λ e. ap (λ (n : ℕ). missed b + n) (misses-without r q (h .1)))
 
 module _ (s s′ w : ℕ) (more : s ≤ s′) (es : List Event) where
   -- each kept event is answered as it was in the full list

@@ -2,7 +2,7 @@
 -- Assumes nothing.
 use Prim.Native.Nat.{ℕ, _≤_, _<_}
 use mathlib.Core.Path.{_≡_, sym, ap, ap₂, _∙_}
-use mathlib.Core.Bool.{true, false}
+use mathlib.Core.Bool.{Bool, true, false, cond}
 use mathlib.Core.List.{List}
 use native.Mathlib.Omega.{arith}
 use lib.Dec.{eqb}
@@ -81,11 +81,11 @@ begin-out-of-place d early late = simp (ne-eqb (d .reading .stage) kindsNext ear
 -- a reference, by whether its kind is counted
 pub counted-step : (d : Desk) (kind : Kind) (a : Addr) → countsKind (d .reading .head .kinds) kind ≡ true
     → traceStep d (gives (ref (a .0))) ≡ traceStep d (meant (d .reading .head .kinds) (Ref kind a))
-counted-step d kind a e = simp e
+counted-step d kind a e = ap (λ (t : Bool). traceStep d (cond t (gives (ref (a .0))) skips)) (sym e)
 
 pub passed-step : (d : Desk) (kind : Kind) (a : Addr) → countsKind (d .reading .head .kinds) kind ≡ false
     → traceStep d skips ≡ traceStep d (meant (d .reading .head .kinds) (Ref kind a))
-passed-step d kind a e = simp e
+passed-step d kind a e = ap (λ (t : Bool). traceStep d (cond t (gives (ref (a .0))) skips)) (sym e)
 
 -- a line that fails leaves all as it was
 pub failed-step : (d : Desk) (n : ℕ) → stays (answered n (d .reading)) d ≡ traceStep d (fails n)
