@@ -25,7 +25,7 @@ module _ (w : ℕ) (d : ℕ → ℕ) (first base len : ℕ) (start : base ≡ fi
   pub raised-part : (l : List ℕ) → base + len ≤ length l → (n : ℕ) → n * w ≤ len
       → writeAt base (raisedRows w 0 d n (part base len l)) l ≡ raisedRows w first d n l
   unfolding raisedRows
-  raised-part l long zero h = write-same base len l long
+  raised-part l long zero h = write-same base len l
   raised-part l long (suc n) h =
       let less : n * w + w ≤ len = omega (arith, suc-mul n w) in
       let ih = raised-part l long n (omega arith) in
@@ -87,7 +87,7 @@ module _ (w r : ℕ) (f : ℕ → Bool) (d : ℕ → ℕ → ℕ) (l : List ℕ)
       ∙ ap (raisedRows w (n * r) (d n) r) ih))
       (λ e. simp e
       (ap (λ (p : List ℕ). writeAt (n * (r * w)) p (writtenRows (r * w) cutRaised n l)) same
-      ∙ write-same (n * (r * w)) (r * w) (writtenRows (r * w) cutRaised n l) room
+      ∙ write-same (n * (r * w)) (r * w) (writtenRows (r * w) cutRaised n l)
       ∙ ih))
 
   pub over-cut : (c n : ℕ) → anyTo n (λ (k : ℕ). f k && anyTo r (overRow w 0 (d k) c (part (k * (r * w)) (r * w) l))) ≡ overGroups w r f d c n l

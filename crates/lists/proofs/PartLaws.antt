@@ -31,13 +31,15 @@ part-at base n l i h = getD-take n (drop base l) i 0 h ∙ getD-drop base l i 0
 pub length-part : (base n : ℕ) (l : List ℕ) → base + n ≤ length l → length (part base n l) ≡ n
 length-part base n l h = length-take-le n (drop base l) (rw (length-drop base l) (omega arith))
 
--- a part written over itself
-pub write-same : (base n : ℕ) (l : List ℕ) → base + n ≤ length l → writeAt base (part base n l) l ≡ l
+-- a part written over itself, also one that the table cuts short
+own-front : (n : ℕ) (l : List ℕ) → take n l ++ drop (length (take n l)) l ≡ l
+own-front zero l = refl
+own-front (suc n) [] = refl
+own-front (suc n) (x ∷ l) = ap (λ (t : List ℕ). x ∷ t) (own-front n l)
+
+pub write-same : (base n : ℕ) (l : List ℕ) → writeAt base (part base n l) l ≡ l
 unfolding writeAt
-write-same base n l h =
-    ap (λ (m : ℕ). take base l ++ (part base n l ++ drop m (drop base l))) (length-take-le n (drop base l) (rw (length-drop base l) (omega arith)))
-    ∙ ap (λ (t : List ℕ). take base l ++ t) (take-append-drop n (drop base l))
-    ∙ take-append-drop base l
+write-same base n l = ap (λ (t : List ℕ). take base l ++ t) (own-front n (drop base l)) ∙ take-append-drop base l
 
 pub length-padded : (n : ℕ) (l : List ℕ) → length (padded n l) ≡ length l + (n - length l)
 length-padded n l = length-append l (replicate (n - length l) 0) ∙ ap (λ (k : ℕ). length l + k) (length-replicate {A = ℕ} (n - length l) 0)
@@ -161,3 +163,19 @@ pub rows-same : (room : ℕ) (top up : ℕ → List ℕ) (n : ℕ) (l : List ℕ
 unfolding writtenRows
 rows-same room top up zero l h = refl
 rows-same room top up (suc n) l h = rw (h n (omega arith), rows-same room top up n l (λ k g. h k (omega arith)))
+
+-- lengths that are 0: each entry passed is 0, in a short list too
+pub lengths-zero : (n k : ℕ) (l : List ℕ) → k < n → getD (setLengths (λ (k : ℕ). []) n l) k 0 ≡ 0
+unfolding setLengths
+lengths-zero zero k l h = absurd (omega arith)
+lengths-zero (suc n) k l h =
+    cases (eqb k n)
+    (λ e. rw (eqb-true k n e) (set-zero (setLengths (λ (k : ℕ). []) n l) n))
+    (λ e.
+    let q : k ≡ n → ⊥ = eqb-false k n e in
+    getD-set-other (setLengths (λ (k : ℕ). []) n l) n k 0 0 q ∙ lengths-zero n k l (omega (arith, q)))
+  where
+    set-zero : (l : List ℕ) (i : ℕ) → getD (set l i 0) i 0 ≡ 0
+    set-zero [] i = refl
+    set-zero (x ∷ l) zero = refl
+    set-zero (x ∷ l) (suc i) = set-zero l i

@@ -1,6 +1,6 @@
 -- Laws of machines run over a list: two machines that stay related, and lists of what was not dropped.
 -- Assumes nothing.
-use Prim.Native.Nat.{_≤_}
+use Prim.Native.Nat.{suc, _≤_}
 use mathlib.Core.Path.{_≡_, refl, sym, ap, ap₂, _∙_}
 use mathlib.Core.Bool.{Bool, true, false}
 use mathlib.Core.List.{List, [], _∷_, _++_, map}
@@ -49,6 +49,15 @@ pub after-append : {S E : Type 0} (step : S → E → S) (s : S) (a b : List E) 
 after-append step s [] b = refl
 after-append step s (e ∷ a) b = after-append step (step s e) a b
 
+pub answers-append : {S E O : Type 0} (step : S → E → S) (out : S → E → O) (s : S) (a b : List E)
+    → answers step out s (a ++ b) ≡ answers step out s a ++ answers step out (after step s a) b
+answers-append step out s [] b = refl
+answers-append step out s (e ∷ a) b = ap (out s e ∷_) (answers-append step out (step s e) a b)
+
+pub length-answers : {S E O : Type 0} (step : S → E → S) (out : S → E → O) (s : S) (es : List E) → length (answers step out s es) ≡ length es
+length-answers step out s [] = refl
+length-answers step out s (e ∷ es) = ap suc (length-answers step out (step s e) es)
+
 -- a test that nothing passes after any run from s
 pub never-on : {S E : Type 0} (step : S → E → S) (p : S → E → Bool) (s : S) → ((l : List E) (e : E) → p (after step s l) e ≡ false)
     → (past es : List E) → anyOn step p (after step s past) es ≡ false
@@ -64,6 +73,16 @@ without-map drop f [] l = refl
 without-map drop f (a ∷ r) [] = refl
 without-map drop f (a ∷ r) (x ∷ l) =
     let ih = without-map drop f r l in
+    cases (drop a) (λ e. simp (e, ih)) (λ e. simp (e, ih))
+
+-- what is left of two lists, where the first has as many answers as things
+pub without-append : {O A : Type 0} (drop : O → Bool) (p q : List O) (l m : List A) → length p ≡ length l
+    → without drop (p ++ q) (l ++ m) ≡ without drop p l ++ without drop q m
+without-append drop [] q [] m h = refl
+without-append drop [] q (x ∷ l) m h = absurd (omega arith)
+without-append drop (a ∷ p) q [] m h = absurd (omega arith)
+without-append drop (a ∷ p) q (x ∷ l) m h =
+    let ih = without-append drop p q l m (omega arith) in
     cases (drop a) (λ e. simp (e, ih)) (λ e. simp (e, ih))
 
 pub length-without : {O A : Type 0} (drop : O → Bool) (r : List O) (l : List A) → length (without drop r l) ≤ length l

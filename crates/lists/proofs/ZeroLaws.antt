@@ -1,14 +1,15 @@
 -- Laws of `zeroed` and `valuesTo`: lengths, what is read, what stays; a table whose first entries are known.
 -- Assumes nothing.
-use Prim.Native.Nat.{ℕ, zero, suc, _+_, _≤_, _<_}
+use Prim.Native.Nat.{ℕ, zero, suc, _+_, _-_, _≤_, _<_}
 use mathlib.Core.Path.{_≡_, refl, sym, ap, ap₂, _∙_}
 use mathlib.Core.List.{List, [], _∷_, _++_}
 use native.Mathlib.Numerals.{add-one}
 use native.Mathlib.Omega.{arith}
-use lib.ListN.{length, drop, getD, set, replicate, length-replicate}
+use lib.ListN.{length, take, drop, getD, set, replicate, length-replicate}
 use lib.Seq.{ext-getD}
-use Rattle.lists.specs.Tables.{zeroed, valuesTo, part}
+use Rattle.lists.specs.Tables.{zeroed, valuesTo, part, writeAt}
 use Rattle.lists.proofs.PartLaws.{part-at, length-part}
+use Rattle.lists.proofs.WriteLaws.{put-writes}
 
 pub zeros-at : (n i : ℕ) → _≡_ {A = ℕ} (getD (replicate n 0) i 0) 0
 zeros-at zero i = refl
@@ -46,6 +47,23 @@ part-zeroed base n m l h f =
     let long = length-part base n (zeroed m l) (omega (arith, length-zeroed m l)) in
     ext-getD 0 (part base n (zeroed m l)) (replicate n 0) (long ∙ sym (length-replicate {A = ℕ} n 0))
     (λ i g. part-at base n (zeroed m l) i (omega arith) ∙ getD-zeroed m (base + i) l (omega arith) ∙ sym (zeros-at n i))
+
+-- all of them
+pub zeroed-all : (n : ℕ) (l : List ℕ) → length l ≡ n → zeroed n l ≡ replicate n 0
+zeroed-all zero [] h = refl
+zeroed-all zero (x ∷ l) h = absurd (omega arith)
+zeroed-all (suc n) [] h = absurd (omega arith)
+zeroed-all (suc n) (x ∷ l) h = ap (λ (t : List ℕ). 0 ∷ t) (zeroed-all n l (omega arith))
+
+-- a part that is zeroed and put back
+pub put-zeros : (base n : ℕ) (l : List ℕ) → base + n ≤ length l
+    → take base l ++ (zeroed n (take (base + n - base) (drop base l)) ++ drop (base + n - base) (drop base l)) ≡ writeAt base (replicate n 0) l
+put-zeros base n l h =
+    rw cut (ap (λ (t : List ℕ). take base l ++ (t ++ drop n (drop base l))) (zeroed-all n (part base n l) (length-part base n l h))
+    ∙ put-writes base n (replicate n 0) l (length-replicate {A = ℕ} n 0))
+  where
+    cut : base + n - base ≡ n
+    cut = omega arith
 
 -- ---- a loop that zeroes
 

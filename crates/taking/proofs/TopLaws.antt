@@ -24,7 +24,6 @@ use Rattle.taking.specs.Places.{usedOf, stackAt, foundAt, depthAt, fullA
 use Rattle.taking.specs.Plain.{overAll, topped, stateDone, stacksDone, countsDone}
 use Rattle.taking.specs.Parts.{Fit, offTop, onTop}
 use Rattle.taking.specs.declared.Opened.{Opened}
-use Rattle.taking.proofs.NeedLaws.{stack-fits}
 use Rattle.taking.proofs.LookLaws.{length-stack, read-stack}
 
 module _ (v : Opened) (st : List ℕ) (x : ℕ → ℕ) (m : ℕ) (f : Fit v (length st) m) (on : onTop v st x ≡ true) where
@@ -76,7 +75,7 @@ module _ (v : Opened) (st : List ℕ) (x : ℕ → ℕ) (m : ℕ) (f : Fit v (le
       (written-same (v .order .room) (topped v st x) st (sizes (v .order))
       (λ k h.
       ap (λ (t : List ℕ). writeAt (k * v .order .room) t st) (top-stack k h .2)
-      ∙ write-same (k * v .order .room) (usedOf v k) st (omega (arith, stack-fits v (length st) m k f h, f .used k h))))
+      ∙ write-same (k * v .order .room) (usedOf v k) st))
 
   pub top-state : record { order = v .order; taken = v .taken + 1; used = v .used } ≡ stateDone v st x
   top-state =
