@@ -12,17 +12,19 @@ use Rattle.lists.specs.Runs.{answers, after}
 use Rattle.lists.specs.Sums.{total, sumTo}
 use Rattle.lists.proofs.Cases.{cases}
 use Rattle.lists.proofs.SumLaws.{total-ext, total-add, total-zero, total-map, total-answers}
-use Rattle.cache.specs.Cache.{setOf, Event, touch, Answer, hit, miss, missed, touched, Sets, simulate, cacheStep, cacheAnswer, emptySets}
-use Rattle.cache.specs.Stack.{stackStep, stackPlace, depth, Place, at, new, places, verdict, atDepth}
+use Rattle.cache.specs.Cache.{setOf, Event, touch, empty, Answer, hit, miss, none, missed, touched, Sets, simulate, cacheStep, cacheAnswer, emptySets}
+use Rattle.cache.specs.Stack.{stackStep, stackPlace, depth, Place, at, new, nowhere, places, verdict, atDepth}
 use Rattle.cache.proofs.StackLaws.{one-stack}
 
 -- hits, beside the page's misses
 abbrev hits : Answer → ℕ
 hits hit = 1
 hits miss = 0
+hits none = 0
 
 hits-suc : (w : ℕ) (p : Place) → hits (verdict (suc w) p) ≡ hits (verdict w p) + atDepth w p
 hits-suc w new = refl
+hits-suc w nowhere = refl
 hits-suc w (at d) =
     cases (eqb w d)
     (λ e. let h = eqb-true w d e in simp (e, lt-ltb d (suc w) (omega arith), le-ltb d w (omega arith)))
@@ -32,6 +34,7 @@ hits-suc w (at d) =
 
 hits-zero : (p : Place) → hits (verdict 0 p) ≡ 0
 hits-zero new = refl
+hits-zero nowhere = refl
 hits-zero (at d) = simp (le-ltb d 0 (omega arith))
 
 hits-by-depth : (w : ℕ) (ps : List Place) → total (λ p. hits (verdict w p)) ps ≡ sumTo (λ d. total (atDepth d) ps) w
@@ -43,6 +46,7 @@ hits-by-depth (suc w) ps =
 
 hit-or-miss : (s : ℕ) (c : Sets) (e : Event) → missed (cacheAnswer s c e) + hits (cacheAnswer s c e) ≡ touched e
 hit-or-miss s c (touch x) = cases (mem x (c (setOf s x))) (λ e. simp e) (λ e. simp e)
+hit-or-miss s c empty = refl
 
 module _ (s w : ℕ) (es : List Event) where
   hits-are : total hits (simulate s w es) ≡ sumTo (λ d. total (atDepth d) (places s es)) w
@@ -61,11 +65,11 @@ module _ (s w : ℕ) (es : List Event) where
   pub hits-fit : sumTo (λ d. total (atDepth d) (places s es)) w ≤ total touched es
   hits-fit = let h = hits-are in let b = both-are in omega arith
 
--- what one reference adds to a count
+-- what one touch adds to a count
 pub place-count : (d s : ℕ) (st : List ℕ) (x : ℕ) → atDepth d (stackPlace s st (touch x)) ≡ cond (mem x st) (cond (eqb d (depth s x st)) 1 0) 0
 place-count d s st x = cases (mem x st) (λ e. simp e) (λ e. simp e)
 
--- ---- a count stays below the references once there is a stack: the first reference was new
+-- ---- a count stays below the touches once there is a stack: the first touch was new
 
 at-most-one : (d s : ℕ) (st : List ℕ) (e : Event) → atDepth d (stackPlace s st e) ≤ touched e
 at-most-one d s st (touch x) =
@@ -73,6 +77,7 @@ at-most-one d s st (touch x) =
     (cases (mem x st)
     (λ f. simp f (cases (eqb d (depth s x st)) (λ e. simp e (omega arith)) (λ e. simp e (omega arith))))
     (λ f. simp f (omega arith)))
+at-most-one d s st empty = omega arith
 
 few : (d s : ℕ) (st : List ℕ) (es : List Event) → total (atDepth d) (answers stackStep (stackPlace s) st es) ≤ total touched es
 few d s st [] = omega arith
@@ -81,3 +86,4 @@ few d s st (e ∷ es) = omega (arith, at-most-one d s st e, few d s (stackStep s
 pub fewer : (d s x : ℕ) (es : List Event) → mem x (after stackStep [] es) ≡ true → total (atDepth d) (places s es) < total touched es
 fewer d s x [] m = absurd (true≢false (sym m))
 fewer d s x (touch y ∷ es) m = omega (arith, few d s (y ∷ []) es)
+fewer d s x (empty ∷ es) m = omega (arith, fewer d s x es m)

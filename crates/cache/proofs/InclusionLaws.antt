@@ -12,7 +12,7 @@ use Rattle.lists.specs.Runs.{Each}
 use Rattle.lists.proofs.Cases.{cases}
 use Rattle.lists.proofs.MemberLaws.{length-keep-le}
 use Rattle.lists.proofs.RunLaws.{each-answer}
-use Rattle.cache.specs.Cache.{setOf, Event, touch, Answer, Sets, emptySets, cacheStep, cacheAnswer, simulate, isHit}
+use Rattle.cache.specs.Cache.{setOf, Event, touch, empty, Answer, Sets, emptySets, cacheStep, cacheAnswer, simulate, isHit}
 use Rattle.cache.specs.Stack.{stackStep, stackPlace, depth, verdict}
 use Rattle.cache.proofs.SetLaws.{set-fewer}
 use Rattle.cache.proofs.StackLaws.{Holds, holds-empty, holds-step, holds-answer}
@@ -45,6 +45,7 @@ module _ (s w s′ w′ : ℕ) (sets : s ≤ s′) (ways : w ≤ w′) where
       (λ f. let g = ltb-true (depth s x st) w f in let l = depth-falls s s′ sets x st in simp (lt-ltb (depth s′ x st) w′ (omega arith)))
       (λ f. absurd (false≢true (simp f at h)))))
       (λ e. simp e (λ h. absurd (false≢true h)))
+  place-hits st empty = λ h. absurd (false≢true h)
 
   pub both-hit : (c c′ : Sets) (e : Event) → Both s w s′ w′ c c′ → HitToo (cacheAnswer s c e) (cacheAnswer s′ c′ e)
   both-hit c c′ e (st, h, h′) = rw (holds-answer s w c st e h, holds-answer s′ w′ c′ st e h′) (place-hits st e)

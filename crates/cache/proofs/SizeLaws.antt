@@ -11,7 +11,7 @@ use Rattle.lists.specs.Members.{remove}
 use Rattle.lists.specs.Runs.{after}
 use Rattle.lists.proofs.CoverLaws.{Covers, covers-step}
 use Rattle.lists.proofs.RunLaws.{after-append}
-use Rattle.cache.specs.Cache.{blockOf, Given, ref, eventsAt, eventsOf}
+use Rattle.cache.specs.Cache.{blockOf, Given, ref, flush, eventsAt, eventsOf}
 use Rattle.cache.specs.Stack.{stackStep}
 
 -- larger blocks are made of smaller ones
@@ -24,11 +24,15 @@ module _ (b k : ℕ) where
   abbrev larger : ℕ → ℕ
   larger y = blockOf k y
 
+  covers-none : Covers larger [] []
+  covers-none = ((λ y h. absurd (false≢true h)), omega arith)
+
   covers-given : (g : Given) (st st′ : List ℕ) → Covers larger st st′
       → Covers larger (after stackStep st (eventsAt b g)) (after stackStep st′ (eventsAt (b + k) g))
   covers-given (ref a) st st′ c =
       subst (λ (y : ℕ). Covers larger (blockOf b a ∷ remove (blockOf b a) st) (y ∷ remove y st′)) (sym (block-wider b k a))
       (covers-step larger (blockOf b a) st st′ c)
+  covers-given flush st st′ c = covers-none
 
   covers-all : (l : List Given) (st st′ : List ℕ) → Covers larger st st′
       → Covers larger (after stackStep st (eventsOf b l)) (after stackStep st′ (eventsOf (b + k) l))
@@ -39,4 +43,4 @@ module _ (b k : ℕ) where
 
   -- THE LAW behind refusal 6: the stack of larger blocks is never the longer one
   pub no-longer : (l : List Given) → length (after stackStep [] (eventsOf (b + k) l)) ≤ length (after stackStep [] (eventsOf b l))
-  no-longer l = covers-all l [] [] ((λ y h. absurd (false≢true h)), omega arith) .1
+  no-longer l = covers-all l [] [] covers-none .1

@@ -13,7 +13,7 @@ use Rattle.lists.specs.Runs.{after}
 use Rattle.lists.proofs.Cases.{picked, both-picked}
 use Rattle.lists.proofs.MemberLaws.{keep-remove, keep-remove-other, mem-take-keep, remove-take, take-remove}
 use Rattle.lists.proofs.RunLaws.{simulates, after-rel}
-use Rattle.cache.specs.Cache.{setOf, Event, touch, hit, miss, Sets, emptySets, refer, cacheStep, cacheAnswer, simulate}
+use Rattle.cache.specs.Cache.{setOf, Event, touch, empty, hit, miss, Sets, emptySets, refer, cacheStep, cacheAnswer, simulate}
 use Rattle.cache.specs.Stack.{stackStep, depth, stackPlace, at, new, places, verdict}
 
 -- a reference to x in a set that holds the first w of a list leaves the first w, after x has gone to the front of the list
@@ -44,6 +44,7 @@ module _ (s w : ℕ) where
       ap (refer w x) (h i) ∙ refer-take w x (keep (λ y. eqb i (setOf s y)) st)
       ∙ ap (λ (l : List ℕ). take w (x ∷ l)) (sym (keep-remove (λ y. eqb i (setOf s y)) x e st)))
       (λ e. h i ∙ ap (take w) (sym (keep-remove-other (λ y. eqb i (setOf s y)) x e st)))
+  holds-step c st empty h i = holds-empty i
 
   pub holds-answer : (c : Sets) (st : List ℕ) (e : Event) → Holds c st → cacheAnswer s c e ≡ verdict w (stackPlace s st e)
   holds-answer c st (touch x) h =
@@ -51,6 +52,7 @@ module _ (s w : ℕ) where
       ∙ ap (λ (t : Bool). cond t hit miss)
       (mem-take-keep (λ y. eqb (setOf s x) (setOf s y)) x (eq-eqb (setOf s x) (setOf s x) refl) w st)
       ∙ verdict-by w (mem x st) (depth s x st)
+  holds-answer c st empty h = refl
 
   -- a reference hits exactly where its block is in the stack and its depth is below w: over every list of events
   pub one-stack : (es : List Event) → simulate s w es ≡ map (verdict w) (places s es)

@@ -15,7 +15,7 @@ use Rattle.lists.specs.Sums.{total}
 use Rattle.lists.proofs.Cases.{cases, picked}
 use Rattle.lists.proofs.MemberLaws.{first-keep}
 use Rattle.lists.proofs.RunLaws.{kept}
-use Rattle.cache.specs.Cache.{setOf, Event, touch, Answer, hit, miss, missed, isHit, Sets, emptySets, cacheStep, cacheAnswer, simulate}
+use Rattle.cache.specs.Cache.{setOf, Event, touch, empty, Answer, hit, miss, none, missed, isHit, Sets, emptySets, cacheStep, cacheAnswer, simulate}
 use Rattle.cache.specs.Cache.{refer}
 use Rattle.cache.proofs.SetLaws.{set-fewer}
 use Rattle.cache.proofs.InclusionLaws.{HitToo, Both, both-empty, both-step, inclusion}
@@ -46,10 +46,12 @@ unchanged s s′ w more c₁ c (touch x) (st, h, h′) hits = fun-ext same
 
     same : (i : ℕ) → cacheStep s′ (suc w) c (touch x) i ≡ c i
     same i = cases (eqb i (setOf s′ x)) (λ e. simp e (own i (eqb-true i (setOf s′ x) e))) (λ e. simp e)
+unchanged s s′ w more c₁ c empty b hits = absurd (false≢true hits)
 
 hit-is-no-miss : (a : Answer) → isHit a ≡ true → missed a ≡ 0
 hit-is-no-miss hit e = refl
 hit-is-no-miss miss e = absurd (false≢true e)
+hit-is-no-miss none e = absurd (false≢true e)
 
 misses-without : (r q : List Answer) → Each HitToo r q → total missed (without isHit r q) ≡ total missed q
 misses-without [] [] h = refl

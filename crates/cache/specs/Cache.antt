@@ -17,14 +17,16 @@ blockOf b a = a / 2 ^ b
 unfoldable pub setOf : ℕ → ℕ → ℕ
 setOf s x = x % 2 ^ s
 
--- what a cache is given: a touch of a block
+-- what a cache is given: a touch of a block, or that it is to be emptied
 pub data Event : Type 0 where
   touch : ℕ → Event
+  empty : Event
 
--- what it answers
+-- what it answers: to a touch a hit or a miss, else nothing
 pub data Answer : Type 0 where
   hit : Answer
   miss : Answer
+  none : Answer
 
 -- the sets by their numbers, each a list of block numbers, most recent first
 abbrev pub Sets : Type 0
@@ -38,13 +40,15 @@ emptySets i = []
 abbrev pub refer : ℕ → ℕ → List ℕ → List ℕ
 refer w x l = cond (mem x l) (x ∷ remove x l) (take w (x ∷ l))
 
--- the list of the block's own set changes so, and the others stay
+-- A touch: the list of the block's own set changes so, and the others stay. A cache that is emptied: every set is empty
 abbrev pub cacheStep : ℕ → ℕ → Sets → Event → Sets
 cacheStep s w c (touch x) = λ i. cond (eqb i (setOf s x)) (refer w x (c i)) (c i)
+cacheStep s w c empty = emptySets
 
 -- a hit where the block is in its set's list, else a miss
 abbrev pub cacheAnswer : ℕ → Sets → Event → Answer
 cacheAnswer s c (touch x) = cond (mem x (c (setOf s x))) hit miss
+cacheAnswer s c empty = none
 
 -- the answers of the cache of 2^s sets and w ways to one event after the other
 abbrev pub simulate : ℕ → ℕ → List Event → List Answer
@@ -53,27 +57,38 @@ simulate s w es = answers (cacheStep s w) (cacheAnswer s) emptySets es
 abbrev pub isHit : Answer → Bool
 isHit hit = true
 isHit miss = false
+isHit none = false
 
 abbrev pub missed : Answer → ℕ
 missed hit = 0
 missed miss = 1
+missed none = 0
 
 -- 1 for a touch: what the touches are counted by
 abbrev pub touched : Event → ℕ
 touched (touch x) = 1
+touched empty = 0
 
--- ---- what is given to the caches of all block sizes: a reference to an address
+-- ---- what is given to the caches of all block sizes: a reference to an address, or a flush
 
 pub data Given : Type 0 where
   ref : ℕ → Given
+  flush : Given
 
 -- 1 for a reference: what the references are counted by
 abbrev pub referred : Given → ℕ
 referred (ref a) = 1
+referred flush = 0
 
--- what it is at blocks of 2^b bytes: the touch of its block
+-- 1 for a flush: what the flushes are counted by
+abbrev pub flushed : Given → ℕ
+flushed (ref a) = 0
+flushed flush = 1
+
+-- what it is at blocks of 2^b bytes: the touch of its block, or every set emptied
 abbrev pub eventsAt : ℕ → Given → List Event
 eventsAt b (ref a) = touch (blockOf b a) ∷ []
+eventsAt b flush = empty ∷ []
 
 -- the events of one after the other
 abbrev pub eventsOf : ℕ → List Given → List Event

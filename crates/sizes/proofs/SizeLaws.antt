@@ -19,7 +19,7 @@ use Rattle.lists.proofs.MemberLaws.{length-front}
 use Rattle.lists.proofs.RaiseLaws.{cell-in, length-raised, raised-at}
 use Rattle.lists.proofs.SumLaws.{sumTo-same}
 use Rattle.lists.proofs.TestLaws.{any-yes, any-none-of}
-use Rattle.cache.specs.Cache.{Event, touch, touched, missed, simulate}
+use Rattle.cache.specs.Cache.{Event, touch, empty, touched, missed, simulate}
 use Rattle.cache.specs.Stack.{stackStep, stackPlace, depth, places, atDepth}
 use Rattle.cache.proofs.CountLaws.{misses-by-depth, hits-fit, fewer, place-count}
 use Rattle.order.specs.declared.Order.{Order}
@@ -32,6 +32,7 @@ module _ (o : Order) where
   pub length-step : (q : Size) (e : Event) → length (countsStep o q e) ≡ length (q .counts)
   length-step q (touch x) =
       cases (mem x (q .stack)) (λ f. simp f (length-raised (o .ways) 0 _ (rows o) (q .counts))) (λ f. simp f)
+  length-step q empty = refl
 
   count-step : (q : Size) (e : Event) (s d : ℕ) → span o ≤ length (q .counts) → s < rows o → d < o .ways
       → getD (countsStep o q e) (s * o .ways + d) 0 ≡ getD (q .counts) (s * o .ways + d) 0 + atDepth d (stackPlace s (q .stack) e)
@@ -43,6 +44,7 @@ module _ (o : Order) where
       ∙ raised-at (o .ways) 0 (λ (s : ℕ). depth s x (q .stack)) (rows o) (q .counts) (rw (zero-add (rows o)) long) s d h g
       ∙ ap (λ (n : ℕ). getD (q .counts) (n * o .ways + d) 0 + cond (eqb d (depth s x (q .stack))) 1 0) (zero-add s)))
       (λ f. simp f (omega arith)))
+  count-step q empty s d long h g = omega arith
 
   -- 6 as its sentence says it, of a stack within room: the block is new and its stack is full
   pub full-new : (q : Size) (x : ℕ) → length (q .stack) ≤ o .room
@@ -143,3 +145,4 @@ module _ (o : Order) where
           = ap (λ (n : ℕ). getD (sizeOver es .counts) (n * o .ways + d) 0) (zero-add s) in
           simp f (lt-leb (sizeOver es .total) (getD (sizeOver es .counts) ((0 + s) * o .ways + d) 0) (omega arith)))
           (λ f. simp f)
+  never-over es empty = refl
