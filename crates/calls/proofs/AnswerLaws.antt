@@ -14,7 +14,7 @@ use Rattle.lists.specs.Tests.{anyTo}
 use Rattle.lists.proofs.Cases.{picked}
 use Rattle.lists.proofs.RunLaws.{never-on}
 use Rattle.lists.proofs.TestLaws.{any-same, any-none-of, any-first}
-use Rattle.cache.specs.Cache.{blockOf, touch, touched, Given, ref, referred, eventsAt, eventsOf}
+use Rattle.cache.specs.Cache.{blockOf, touch, empty, touched, Given, ref, flush, referred, eventsAt, eventsOf}
 use Rattle.cache.specs.Stack.{seenIn}
 use Rattle.cache.proofs.GivenLaws.{touches-all}
 use Rattle.cache.proofs.SizeLaws.{no-longer}
@@ -22,7 +22,7 @@ use Rattle.order.specs.declared.Order.{Order}
 use Rattle.order.specs.Limits.{sizes}
 use Rattle.sizes.specs.Size.{Size, emptySize, sizeStep, isFull, isOver}
 use Rattle.sizes.proofs.SizeLaws.{total-after, stack-after, never-over}
-use Rattle.taking.proofs.NeedLaws.{answer-by-sizes}
+use Rattle.taking.proofs.NeedLaws.{answer-by-sizes, flush-is-done}
 use Rattle.taking.specs.World.{World, sizeAt}
 use Rattle.taking.specs.Taking.{eventsIn, someSize, takeAnswer}
 use Rattle.calls.specs.Answers.{isFullAfter, answerAfter}
@@ -32,13 +32,15 @@ use Rattle.calls.proofs.HistoryLaws.{History, size-next}
 full-once : (o : Order) (q : Size) (b : ℕ) (g : Given)
     → anyOn (sizeStep o) (isFull o) q (eventsAt b g) ≡ ltb (o .room) (length (after (sizeStep o) q (eventsAt b g) .stack))
 full-once o q b (ref a) = or-false (isFull o q (touch (blockOf b a)))
+full-once o q b flush = or-false (isFull o q empty)
 
 -- only 0, 5 and 6 come
 pub after-cases : (P : ℕ → Type 0) → P 0 → P 5 → P 6 → (o : Order) (past : List Given) (g : Given) → P (answerAfter o past g)
-after-cases P done reached full o past g =
+after-cases P done reached full o past (ref a) =
     picked P (eqb (total referred past) (o .refs))
     (λ e. reached)
-    (λ e. picked P (anyTo (sizes o) (λ (k : ℕ). isFullAfter o past g (o .bmin .0 + k))) (λ f. full) (λ f. done))
+    (λ e. picked P (anyTo (sizes o) (λ (k : ℕ). isFullAfter o past (ref a) (o .bmin .0 + k))) (λ f. full) (λ f. done))
+after-cases P done reached full o past flush = done
 
 module _ (w : World) (past : List Given) (i : History w past) where
   abbrev o : Order
@@ -100,15 +102,16 @@ module _ (w : World) (past : List Given) (i : History w past) where
     pub full-at-smallest : isFullAfter o past g (o .bmin .0) ≡ anyOn (sizeStep o) (isFull o) (sizeAt w 0) (eventsIn w g 0)
     full-at-smallest = ap (isFullAfter o past g) (sym zeroth) ∙ sym (full-is 0 first-in)
 
-    -- what a taking answers, told by what was given alone
-    pub answer-told : takeAnswer w g ≡ answerAfter o past g
-    answer-told =
-        answer-by-sizes w g (i .fitted .fit)
-        ∙ ap₂ (λ (full over : Bool). cond (eqb (w .state .taken) (o .refs)) 5 (cond full 6 (cond over 7 0))) full-all none-over
-        ∙ ap (λ (n : ℕ). cond (eqb n (o .refs)) 5 (cond (anyTo (sizes o) (λ (k : ℕ). isFullAfter o past g (at k))) 6 0)) count-is
+  -- what a taking answers, told by what was given alone
+  pub answer-told : (g : Given) → takeAnswer w g ≡ answerAfter o past g
+  answer-told (ref a) =
+      answer-by-sizes w a (i .fitted .fit)
+      ∙ ap₂ (λ (full over : Bool). cond (eqb (w .state .taken) (o .refs)) 5 (cond full 6 (cond over 7 0))) (full-all (ref a)) (none-over (ref a))
+      ∙ ap (λ (n : ℕ). cond (eqb n (o .refs)) 5 (cond (anyTo (sizes o) (λ (k : ℕ). isFullAfter o past (ref a) (at k))) 6 0)) count-is
+  answer-told flush = flush-is-done w (i .fitted .fit)
 
-    -- THE LAW: 5 where refs is reached, 6 where the stack of the smallest blocks would pass room, else done
-    pub answer-after : takeAnswer w g ≡ cond (eqb (w .state .taken) (o .refs)) 5 (cond (isFullAfter o past g (o .bmin .0)) 6 0)
-    answer-after =
-        answer-by-sizes w g (i .fitted .fit)
-        ∙ ap₂ (λ (t u : Bool). cond (eqb (w .state .taken) (o .refs)) 5 (cond t 6 (cond u 7 0))) full-by-smallest none-over
+  -- THE LAW of a reference: 5 where refs is reached, 6 where the stack of the smallest blocks would pass room, else done
+  pub answer-after : (a : ℕ) → takeAnswer w (ref a) ≡ cond (eqb (w .state .taken) (o .refs)) 5 (cond (isFullAfter o past (ref a) (o .bmin .0)) 6 0)
+  answer-after a =
+      answer-by-sizes w a (i .fitted .fit)
+      ∙ ap₂ (λ (t u : Bool). cond (eqb (w .state .taken) (o .refs)) 5 (cond t 6 (cond u 7 0))) (full-by-smallest (ref a)) (none-over (ref a))

@@ -13,14 +13,14 @@ use Rattle.lists.proofs.PartLaws.{row-in}
 use Rattle.lists.proofs.RunLaws.{after-append}
 use Rattle.lists.proofs.ZeroLaws.{length-zeroed, getD-zeroed, part-zeroed, zeros-at}
 use Rattle.cache.specs.Cache.{Given, eventsOf}
-use Rattle.cache.proofs.GivenLaws.{events-one, referred-most}
+use Rattle.cache.proofs.GivenLaws.{events-one}
 use Rattle.order.specs.declared.Order.{Order}
 use Rattle.order.specs.Limits.{limits, sizes, span, stackNeed, countNeed}
 use Rattle.sizes.specs.Size.{Size, emptySize, sizeStep}
 use Rattle.order.proofs.LimitLaws.{need-spans}
 use Rattle.sizes.proofs.SizeLaws.{sizeOver}
 use Rattle.taking.specs.Places.{usedOf}
-use Rattle.taking.specs.World.{World, world, sizeAt}
+use Rattle.taking.specs.World.{World, sizeAt}
 use Rattle.taking.specs.Opening.{opened}
 use Rattle.taking.specs.Taking.{eventsIn, taken, takeAnswer}
 use Rattle.calls.proofs.PassedLaws.{passed, sizeNext, total-next, fitting-next}
@@ -73,9 +73,9 @@ module _ (w : World) (past : List Given) (i : History w past) (g : Given) where
   pub history-taken : takeAnswer w g ≡ 0 → History (taken w g) (past ++ (g ∷ []))
   history-taken e =
       let p = passed w g e in
-      let fit = fitting-next w g p in
+      let fit = fitting-next w g (i .fitted .fit) (p .roomy) in
       record {
-        fitted = fitted-back w (i .fitted) (sizeNext w g) fit (omega (arith, p .below, total-next w g 0, referred-most g));
+        fitted = fitted-back w (i .fitted) (sizeNext w g) fit (omega (arith, p .ceiling, total-next w g 0));
         size = λ k h. size-back w (i .fitted) (sizeNext w g) fit k h ∙ size-next k h;
         blank = λ k j h past below. blank-back w (i .fitted) (sizeNext w g) fit k j h (λ u. i .blank k j h u below) past below;
       }

@@ -19,8 +19,8 @@ use Rattle.taking.specs.Places.{usedOf}
 use Rattle.taking.specs.Taking.{isForeign, someSize, takeAnswer}
 use Rattle.taking.specs.World.{World}
 use Rattle.sizes.specs.Size.{isFull, isOver}
-use Rattle.cache.specs.Cache.{Given}
-use Rattle.taking.specs.Parts.{earlyAnswer, Fit, Grid, Rows, Tabled}
+use Rattle.cache.specs.Cache.{ref, flush}
+use Rattle.taking.specs.Parts.{earlyAnswer, unflushable, Fit, Grid, Rows, Tabled}
 use Rattle.taking.specs.declared.Opened.{Opened}
 
 -- all rows of an order that fits
@@ -101,13 +101,31 @@ own-of v n m f =
     (any-none-of (sizes (v .order)) (tooLong v) (λ k h. le-ltb (v .order .room) (usedOf v k) (f .used k h)))
     (le-ltb (v .order .refs) (v .taken) (f .ceiling))
 
--- THE ANSWER where the state fits: 5, 6, 7 are left
-pub answer-by-sizes : (w : World) (g : Given) → Fit (w .state) (length (w .stacks)) (length (w .counts))
-    → takeAnswer w g ≡ cond (eqb (w .state .taken) (w .state .order .refs)) 5 (cond (someSize isFull w g) 6 (cond (someSize isOver w g) 7 0))
-answer-by-sizes w g f =
+-- THE ANSWER where the state fits: 5, 6, 7 are left for a reference, and nothing for a flush
+pub answer-by-sizes : (w : World) (a : ℕ) → Fit (w .state) (length (w .stacks)) (length (w .counts))
+    → takeAnswer w (ref a)
+    ≡ cond (eqb (w .state .taken) (w .state .order .refs)) 5 (cond (someSize isFull w (ref a)) 6 (cond (someSize isOver w (ref a)) 7 0))
+answer-by-sizes w a f =
     simp (
       all-yes (limits (w .state .order)) (f .numbers),
       le-ltb (length (w .stacks)) (stackNeed (w .state .order)) (f .long),
       le-ltb (length (w .counts)) (countNeed (w .state .order)) (f .wide),
       own-of (w .state) (length (w .stacks)) (length (w .counts)) f,
     )
+
+pub flush-is-done : (w : World) → Fit (w .state) (length (w .stacks)) (length (w .counts)) → takeAnswer w flush ≡ 0
+flush-is-done w f =
+    simp (
+      all-yes (limits (w .state .order)) (f .numbers),
+      le-ltb (length (w .stacks)) (stackNeed (w .state .order)) (f .long),
+      own-of (w .state) (length (w .stacks)) (length (w .counts)) f,
+    )
+
+-- what an answer of 0 to a flush says: 3 is not looked at, so of the counts nothing is known
+pub fit-flush : (v : Opened) (n : ℕ) → unflushable v n ≡ 0 → Fit v n (countNeed (v .order))
+fit-flush v n e =
+    let first = none-first (not (within (v .order))) 0 _ e in
+    let second = none-first (ltb n (stackNeed (v .order))) 1 _ (first .1) in
+    let third = none-first (isForeign v) 3 0 (second .1) in
+    fit-past v n (countNeed (v .order)) (not-false (within (v .order)) (first .0)) (second .0)
+    (le-ltb (countNeed (v .order)) (countNeed (v .order)) (omega arith)) (third .0)

@@ -140,7 +140,7 @@ module _ (v : Opened) (st ct : List ℕ) (a : ℕ) where
       → takeAnswer (world v st ct) (ref a) ≡ cond t 6 (cond u 7 0)
   answer-late f less t u p q =
       let short = ne-eqb (v .taken) (v .order .refs) (λ z. omega arith) in
-      answer-by-sizes (world v st ct) (ref a) f
+      answer-by-sizes (world v st ct) a f
       ∙ simp short (ap₂ (λ (x y : Bool). cond x 6 (cond y 7 0)) (full-each v st ct a f ∙ p) (over-each v st ct a f ∙ q))
 
   -- ---- the outcome

@@ -5,7 +5,7 @@ use mathlib.Core.Path.{_≡_}
 use mathlib.Core.Bool.{Bool, true, not, _||_}
 use mathlib.Core.List.{List, [], _∷_}
 use lib.Dec.{eqb, ltb}
-use lib.ListN.{length, getD}
+use lib.ListN.{length, getD, replicate}
 use Rattle.lists.specs.Members.{remove, above}
 use Rattle.lists.specs.Tables.{part, writeAt, writtenRows, setLengths}
 use Rattle.lists.specs.Tests.{firstOf, anyTo, All≤}
@@ -38,6 +38,15 @@ unaskable v m b s w =
     ∷ (ltb m (countNeed (v .order)), shortCounts)
     ∷ (isForeign v, foreignState)
     ∷ (not (has (v .order) b s w), notInOrder)
+    ∷ [])
+
+-- refusals 1, 2 and 4 of a flush, from the state and the stack table's length n
+abbrev pub unflushable : Opened → ℕ → ℕ
+unflushable v n =
+    firstOf
+    ((not (within (v .order)), outsideLimits)
+    ∷ (ltb n (stackNeed (v .order)), shortStacks)
+    ∷ (isForeign v, foreignState)
     ∷ [])
 
 -- what refusals 1 to 4 leave: the order's numbers are within their limits, tables of n and m entries are long enough, and the state is no foreign one
@@ -160,3 +169,21 @@ toppedBy room x st us k = toppedAt (k * room) (getD us k 0) (x k) st
 pub record AllMoved (n room : ℕ) (x : ℕ → ℕ) (st us st′ us′ : List ℕ) : Type 0 where
   pub stacks : st′ ≡ writtenRows room (toppedBy room x st us) n st
   pub used : us′ ≡ setLengths (toppedBy room x st us) n us
+
+-- ---- a flush
+
+-- n stacks, each within room
+pub record Stacked (n room : ℕ) (st us : List ℕ) : Type 0 where
+  pub sizes : n ≤ sizesMost
+  pub long : n * room ≤ length st
+  pub lengths : length us ≡ sizesMost
+  pub used : (k : ℕ) → k < n → getD us k 0 ≤ room
+
+-- as many zeros as stack k has entries
+abbrev pub zerosFor : List ℕ → ℕ → List ℕ
+zerosFor us k = replicate (getD us k 0) 0
+
+-- the entries of each stack are zero, and its used length is 0
+pub record Emptied (n room : ℕ) (st us st′ us′ : List ℕ) : Type 0 where
+  pub stacks : st′ ≡ writtenRows room (zerosFor us) n st
+  pub used : us′ ≡ setLengths (λ (k : ℕ). []) n us

@@ -1,5 +1,5 @@
--- Taking what is given (SCOPE, "The stack and the counts"; its refusals 1 to 7, in that order): each block size takes its events.
--- Assumes nothing.
+-- Taking what is given, a reference or a flush (SCOPE, "The stack and the counts" and "Flushing"): each block size takes its events. A reference
+-- is refused with 1 to 7, a flush with 1, 2, 4, in that order. Assumes nothing.
 use Prim.Native.Nat.{ℕ, _+_}
 use mathlib.Core.Path.{_≡_}
 use mathlib.Core.Bool.{Bool, not, _||_}
@@ -9,7 +9,7 @@ use lib.ListN.{length}
 use Rattle.lists.specs.Runs.{after, anyOn}
 use Rattle.lists.specs.Tests.{firstOf, settled, anyTo}
 use Rattle.units.specs.Refusals.{outsideLimits, shortStacks, shortCounts, foreignState, refsReached, stackFull, countOver}
-use Rattle.cache.specs.Cache.{Event, Given, eventsAt}
+use Rattle.cache.specs.Cache.{Event, Given, ref, flush, eventsAt}
 use Rattle.order.specs.declared.Order.{Order}
 use Rattle.order.specs.Limits.{within, sizes, stackNeed, countNeed}
 use Rattle.sizes.specs.Size.{Size, sizeStep, isFull, isOver}
@@ -35,20 +35,26 @@ isForeign v = anyTo (sizes (v .order)) (λ (k : ℕ). ltb (v .order .room) (used
 abbrev pub someSize : (Order → Size → Event → Bool) → World → Given → Bool
 someSize p w g = anyTo (sizes (w .state .order)) (λ (k : ℕ). anyOn (sizeStep (w .state .order)) (p (w .state .order)) (sizeAt w k) (eventsIn w g k))
 
--- the first of 1 to 7 that applies, else 0
+-- the first of a reference's 1 to 7 that applies, else 0; of a flush's 1, 2, 4, which looks at no count
 abbrev pub takeAnswer : World → Given → ℕ
-takeAnswer w g =
+takeAnswer w (ref a) =
     firstOf
     ((not (within (w .state .order)), outsideLimits)
     ∷ (ltb (length (w .stacks)) (stackNeed (w .state .order)), shortStacks)
     ∷ (ltb (length (w .counts)) (countNeed (w .state .order)), shortCounts)
     ∷ (isForeign (w .state), foreignState)
     ∷ (eqb (w .state .taken) (w .state .order .refs), refsReached)
-    ∷ (someSize isFull w g, stackFull)
-    ∷ (someSize isOver w g, countOver)
+    ∷ (someSize isFull w (ref a), stackFull)
+    ∷ (someSize isOver w (ref a), countOver)
+    ∷ [])
+takeAnswer w flush =
+    firstOf
+    ((not (within (w .state .order)), outsideLimits)
+    ∷ (ltb (length (w .stacks)) (stackNeed (w .state .order)), shortStacks)
+    ∷ (isForeign (w .state), foreignState)
     ∷ [])
 
--- THE CONTRACT of `take_ref`: a call that is given g answers n and leads from w to w′
+-- THE CONTRACT of `take_ref` and of `flush`: a call that is given g answers n and leads from w to w′
 pub record Takes (w : World) (g : Given) (n : ℕ) (w′ : World) : Type 0 where
   pub answer : n ≡ takeAnswer w g
   pub left : w′ ≡ settled (takeAnswer w g) (taken w g) w

@@ -1,8 +1,9 @@
 // The opened order, and what its functions hand back (SCOPE, "The order's numbers" and "Questions"). Its functions
-// stand in opening.rt, references.rt, questions.rt and refusing.rt. Both tables are lent: slices of 32-bit numbers.
+// stand in opening.rt, references.rt, flushing.rt, questions.rt and refusing.rt. Both tables are lent: slices of 32-bit numbers.
 use order::Order;
 
 mod counting;
+mod flushing;
 mod moving;
 mod opening;
 mod questions;

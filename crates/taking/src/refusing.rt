@@ -1,4 +1,4 @@
-// The refusals that need no walk (SCOPE, "Refusal numbers"): of a taking, and of a question.
+// The refusals that need no walk (SCOPE, "Refusal numbers"): of a taking, of a flush, and of a question.
 use crate::Opened;
 use units::ByteExp;
 use units::refusal;
@@ -6,7 +6,7 @@ ghost use mathlib.Core.Path.{_≡_};
 ghost use Prim.Native.Nat.{_≤_};
 ghost use Rattle.order.specs.Limits.{sizes, sizesMost};
 ghost use Rattle.taking.specs.Taking.{isForeign};
-ghost use Rattle.taking.specs.Parts.{earlyAnswer, unaskable};
+ghost use Rattle.taking.specs.Parts.{earlyAnswer, unflushable, unaskable};
 
 impl Opened {
     // Refusals 1 to 5 of a taking, with tables of n and m entries; 0 where none applies.
@@ -30,6 +30,23 @@ impl Opened {
         }
         if taken == refs {
             return refusal::REFS_REACHED;
+        }
+        refusal::DONE
+    }
+
+    // Refusals 1, 2 and 4 of a flush, with a stack table of `len` entries; 0 where none applies.
+    pub(crate) fn unflushed(self, len: usize) -> u32
+        ensures { λ r. ⌜ r ≡ unflushable self len ⌝ }
+    {
+        let order = self.order;
+        if !order.is_within() {
+            return refusal::OUTSIDE_LIMITS;
+        }
+        if len < order.stack_need() {
+            return refusal::SHORT_STACKS;
+        }
+        if self.is_foreign() {
+            return refusal::FOREIGN_STATE;
         }
         refusal::DONE
     }
