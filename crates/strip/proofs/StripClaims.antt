@@ -12,12 +12,13 @@ use Rattle.lists.specs.Sums.{total}
 use Rattle.lists.specs.Tables.{zeroed}
 use Rattle.lists.proofs.RunLaws.{without-map}
 use Rattle.lists.proofs.TestLaws.{settled-done, settled-not}
-use Rattle.cache.specs.Cache.{blockOf, touch, ref, isHit, missed, simulate, touchesOf, missesOver}
+use Rattle.cache.specs.Cache.{Given, ref, isHit, missed, eventsOf, simulate, touchesOf, missesOver}
 use Rattle.cache.proofs.InclusionLaws.{HitToo}
-use Rattle.cache.proofs.GivenLaws.{touches-are}
+use Rattle.cache.proofs.GivenLaws.{eventOf, events-are}
 use Rattle.cache.proofs.StripLaws.{strip-kept, strip-dropped, strip-misses}
 use Rattle.units.specs.Refusals.{done, shortOutput}
 use Rattle.strip.specs.declared.Stripped.{Stripped}
+use Rattle.strip.specs.Joined.{keptIn}
 use Rattle.strip.specs.Strip.{keptOf, stripAnswer, Strips}
 
 -- ---- what any strip within its contract leaves
@@ -50,12 +51,15 @@ module _ {l : List ℕ} {b s : ℕ} {table out : List ℕ} {r : Stripped} {table
 
 -- ---- what it is good for
 
--- the touches of what is kept are what is kept of the touches
+-- the events of what is kept are what is kept of the events
+pub events-kept : (b s : ℕ) (l : List Given) → eventsOf b (keptIn b s l) ≡ without isHit (simulate s 1 (eventsOf b l)) (eventsOf b l)
+events-kept b s l =
+    events-are b (keptIn b s l)
+    ∙ without-map isHit (eventOf b) (simulate s 1 (eventsOf b l)) l
+    ∙ ap (without isHit (simulate s 1 (eventsOf b l))) (sym (events-are b l))
+
 touches-kept : (b s : ℕ) (l : List ℕ) → touchesOf b (keptOf b s l) ≡ without isHit (simulate s 1 (touchesOf b l)) (touchesOf b l)
-touches-kept b s l =
-    touches-are b (keptOf b s l)
-    ∙ without-map isHit (λ a. touch (blockOf b a)) (simulate s 1 (touchesOf b l)) l
-    ∙ ap (without isHit (simulate s 1 (touchesOf b l))) (sym (touches-are b l))
+touches-kept b s l = ap (eventsOf b) (without-map isHit ref (simulate s 1 (touchesOf b l)) l) ∙ events-kept b s (map ref l)
 
 module _ (b s s′ w : ℕ) (more : s ≤ s′) (l : List ℕ) where
   -- each kept reference hits or misses as it did in the full list
