@@ -27,7 +27,7 @@ pub enum Kind {
 // What a line of the trace reads as.
 pub enum TraceLine {
     Ref(Kind, Addr),
-    // A skipped line: well-formed, with label 4, an escape.
+    // Label 4, an escape: well-formed, and no reference.
     Escape,
     // The refusal number.
     Refused(u32),

@@ -35,7 +35,7 @@ pub record Puts (bytes : List ℕ) (at : ℕ) (out : List ℕ) (r : ℕ) (out′
   pub end : r ≡ at + length bytes
   pub written : out′ ≡ sets out at bytes
 
--- room for the longest line: four numbers of 20 digits need 97 bytes, and a line of a coming edition has up to 91
+-- room for the longest form: with numbers of 20 digits the head needs 113 bytes, and a line of the table 97
 abbrev pub lineMost : ℕ
 lineMost = 128
 

@@ -47,7 +47,9 @@ lineOf f more = fieldOf f ++ fieldsAfter more
 -- ---- the output
 
 abbrev pub headLines : ℕ → Tally → List ℕ
-headLines refs tally = lineOf (text "edition", 1) [] ++ (lineOf (text "refs", refs) [] ++ lineOf (text "skipped", tally .skipped) [])
+headLines refs tally =
+    lineOf (text "edition", 2) []
+    ++ (lineOf (text "refs", refs) [] ++ (lineOf (text "skipped", tally .skipped) [] ++ lineOf (text "flushes", tally .flushes) []))
 
 abbrev pub cacheLine : ℕ → ℕ → ℕ → ℕ → List ℕ
 cacheLine b s w misses = lineOf (text "b", b) ((text "s", s) ∷ (text "w", w) ∷ (text "misses", misses) ∷ [])

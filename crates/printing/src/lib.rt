@@ -11,7 +11,7 @@ ghost use Rattle.printing.specs.Printed.{decimalOf, headLines, lineAt, r
 ghost use Rattle.printing.specs.Forms.{filled, most, Puts, Prints};
 ghost use Rattle.printing.specs.Grid.{firstCache, nextCache};
 
-// How long a lent buffer must be: the longest line of this edition has 97 bytes at most.
+// How long a lent buffer must be: the head has 113 bytes at most, and a line of the table 97.
 pub const LINE_MOST: usize = 128;
 
 // The cache whose line comes next, or that none does.
@@ -83,8 +83,14 @@ pub fn head_lines(refs: u32, tally: Tally, out: &mut [u8]) -> usize
         return 0;
     }
     let skipped = tally.skipped;
-    let numbers = [1, refs as u64, skipped as u64];
-    fill(out, 0, b"edition=#\nrefs=#\nskipped=#\n", &numbers)
+    let flushes = tally.flushes;
+    let numbers = [2, refs as u64, skipped as u64, flushes as u64];
+    fill(
+        out,
+        0,
+        b"edition=#\nrefs=#\nskipped=#\nflushes=#\n",
+        &numbers,
+    )
 }
 
 // The line of one cache; nothing where the question is refused.

@@ -11,7 +11,7 @@ use borrow.Author.Tests.{eq-eqb, ne-eqb, eqb-false, lt-ltb}
 use Rattle.lists.proofs.Cases.{cases}
 use Rattle.lists.proofs.TestLaws.{settled-done, settled-not, settled-in}
 use Rattle.order.specs.declared.Order.{Order}
-use Rattle.cache.specs.Cache.{Given, ref}
+use Rattle.cache.specs.Cache.{ref, flush}
 use Rattle.taking.specs.World.{World}
 use Rattle.taking.specs.Opening.{openAnswer, opened, unopened, Opens}
 use Rattle.taking.specs.Taking.{takeAnswer, taken, Takes}
@@ -22,18 +22,37 @@ use Rattle.lines.specs.declared.TraceLine.the-variants.{Ref}
 use Rattle.lines.specs.Bytes.{longest}
 use Rattle.lines.specs.TraceLine.{traceLineOf}
 use Rattle.lines.specs.OrderLine.{orderLineOf, countsKind}
-use Rattle.reading.specs.Reading.{kindsNext, beginNext, traceNext, withStage, withReading, worldOf, withWorld}
+use Rattle.reading.specs.Reading.{kindsNext, beginNext, traceNext, withStage, withTally, oneFlushed, withReading, worldOf, withWorld}
 use Rattle.reading.specs.Reading.{Desk, desk, outcome, answered, stays}
 use Rattle.reading.specs.Head.{begun, beginAt, orderOf, opening}
 use Rattle.reading.specs.Meaning.{gives, skips, fails, meant}
 use Rattle.reading.specs.Step.{traceStep, inTrace, isTooMany, stepOf, longLine}
 
 -- a taking: the world handed back goes into the next state
-pub taken-outcome : (d : Desk) (g : Given) (n : ℕ) (w : World) → Takes (worldOf d) g n w → outcome n (withWorld w d) ≡ traceStep d (gives g)
-taken-outcome d g n w t =
+pub taken-outcome : (d : Desk) (a : ℕ) (n : ℕ) (w : World) → Takes (worldOf d) (ref a) n w → outcome n (withWorld w d) ≡ traceStep d (gives (ref a))
+taken-outcome d a n w t =
     ap₂ outcome (t .answer)
     (ap (λ (x : World). withWorld x d) (t .left)
-    ∙ settled-in (λ (x : World). withWorld x d) (takeAnswer (worldOf d) g) (taken (worldOf d) g) (worldOf d))
+    ∙ settled-in (λ (x : World). withWorld x d) (takeAnswer (worldOf d) (ref a)) (taken (worldOf d) (ref a)) (worldOf d))
+
+-- a flush: it does so too, and is counted where it is done
+module _ (d : Desk) (n : ℕ) (w : World) (t : Takes (worldOf d) flush n w) where
+  abbrev counting : World → Desk
+  counting x = let new = withWorld x d in withReading (withTally (oneFlushed (d .reading .tally)) (new .reading)) new
+
+  pub flushed-outcome : n ≡ 0 → outcome n (counting w) ≡ traceStep d (gives flush)
+  flushed-outcome e =
+      let zero = sym (t .answer) ∙ e in
+      ap₂ outcome (t .answer)
+      (ap counting (t .left ∙ settled-done (takeAnswer (worldOf d) flush) (taken (worldOf d) flush) (worldOf d) zero)
+      ∙ sym (settled-done (takeAnswer (worldOf d) flush) (counting (taken (worldOf d) flush)) d zero))
+
+  pub unflushed-outcome : (n ≡ 0 → ⊥) → outcome n (withWorld w d) ≡ traceStep d (gives flush)
+  unflushed-outcome ne =
+      let other : takeAnswer (worldOf d) flush ≡ 0 → ⊥ = λ z. ne (t .answer ∙ z) in
+      ap₂ outcome (t .answer)
+      (ap (λ (x : World). withWorld x d) (t .left ∙ settled-not (takeAnswer (worldOf d) flush) (taken (worldOf d) flush) (worldOf d) other)
+      ∙ sym (settled-not (takeAnswer (worldOf d) flush) (counting (taken (worldOf d) flush)) d other))
 
 module _ (d : Desk) (n : ℕ) (w : World) (t : Opens (orderOf (d .reading)) (unopened (d .stacks) (d .counts)) n w) where
   abbrev o : Order

@@ -4,14 +4,14 @@ use Prim.Native.Nat.{ℕ, _+_}
 use mathlib.Core.Bool.{cond}
 use mathlib.Core.List.{List, [], _∷_, _++_}
 use Rattle.lists.specs.Sums.{total}
-use Rattle.cache.specs.Cache.{Given, ref}
+use Rattle.cache.specs.Cache.{Given, ref, flush, flushed}
 use Rattle.lines.specs.declared.Kinds.{Kinds}
 use Rattle.lines.specs.declared.TraceLine.{TraceLine}
 use Rattle.lines.specs.declared.TraceLine.the-variants.{Ref, Escape, Refused as BadTrace}
 use Rattle.lines.specs.TraceLine.{traceLineOf}
 use Rattle.lines.specs.OrderLine.{countsKind}
 use Rattle.reading.specs.declared.Tally.{Tally}
-use Rattle.reading.specs.Reading.{oneSkipped}
+use Rattle.reading.specs.Reading.{oneSkipped, oneFlushed}
 
 -- something is given, the line is skipped, or it is refused with a number
 pub data Meaning : Type 0 where
@@ -19,10 +19,10 @@ pub data Meaning : Type 0 where
   skips : Meaning
   fails : ℕ → Meaning
 
--- a reference of a kind that is counted is given; any other, and an escape, is skipped
+-- a reference of a kind that is counted is given, and any other skipped; an escape gives a flush, whatever is counted
 abbrev pub meant : Kinds → TraceLine → Meaning
 meant kinds (Ref kind a) = cond (countsKind kinds kind) (gives (ref (a .0))) skips
-meant kinds Escape = skips
+meant kinds Escape = gives flush
 meant kinds (BadTrace n) = fails n
 
 abbrev pub meaningOf : Kinds → List ℕ → Meaning
@@ -30,7 +30,8 @@ meaningOf kinds line = meant kinds (traceLineOf line)
 
 -- one line more in the tally
 abbrev pub tallied : Meaning → Tally → Tally
-tallied (gives g) t = t
+tallied (gives (ref a)) t = t
+tallied (gives flush) t = oneFlushed t
 tallied skips t = oneSkipped t
 tallied (fails n) t = t
 
@@ -51,6 +52,6 @@ skippedBy (gives g) = 0
 skippedBy skips = 1
 skippedBy (fails n) = 0
 
--- how many of them are skipped
+-- how many of them are skipped, and how many flush
 abbrev pub talliedIn : List Meaning → Tally
-talliedIn l = record { skipped = total skippedBy l }
+talliedIn l = record { skipped = total skippedBy l; flushes = total flushed (givenIn l) }

@@ -53,7 +53,7 @@ start = record {
   lines = 0;
   stage = bminNext;
   head = record { numbers = replicate 6 0; kinds = All };
-  tally = record { skipped = 0 };
+  tally = record { skipped = 0; flushes = 0 };
   opened = fresh zeroOrder;
 }
 
@@ -73,11 +73,21 @@ abbrev pub withOpened : Opened → Reading → Reading
 withOpened o v = record { lines = v .lines; stage = v .stage; head = v .head; tally = v .tally; opened = o }
 
 abbrev pub withSkipped : ℕ → Tally → Tally
-withSkipped n t = record { skipped = n }
+withSkipped n t = record { skipped = n; flushes = t .flushes }
 
--- one more line skipped: no input has more than 4,294,967,295 lines, so the count never stops short in a run from the start
+abbrev pub withFlushes : ℕ → Tally → Tally
+withFlushes n t = record { skipped = t .skipped; flushes = n }
+
+-- one more: no input has more than 4,294,967,295 lines, so no count stops short in a run from the start
+abbrev pub oneMore : ℕ → ℕ
+oneMore n = min (n + 1) 4294967295
+
+-- one more line skipped, and one more flush
 abbrev pub oneSkipped : Tally → Tally
-oneSkipped t = withSkipped (min (t .skipped + 1) 4294967295) t
+oneSkipped t = withSkipped (oneMore (t .skipped)) t
+
+abbrev pub oneFlushed : Tally → Tally
+oneFlushed t = withFlushes (oneMore (t .flushes)) t
 
 -- ---- what a line works on
 

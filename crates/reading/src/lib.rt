@@ -32,6 +32,7 @@ pub struct Head {
 // Lines of the trace, counted by what was done with them.
 pub struct Tally {
     pub skipped: u32,
+    pub flushes: u32,
 }
 
 // How far the input is read.
@@ -63,7 +64,10 @@ impl Reading {
                 numbers: [0; 6],
                 kinds: Kinds::All,
             },
-            tally: Tally { skipped: 0 },
+            tally: Tally {
+                skipped: 0,
+                flushes: 0,
+            },
             opened: Opened::none(),
         }
     }

@@ -1,15 +1,17 @@
-// A line of the trace: a reference that is counted is taken, and any other good line is skipped.
+// A line of the trace: a reference that is counted is taken, an escape flushes, and any other good line is skipped.
 use crate::Reading;
 use crate::Step;
 use lines::TraceLine;
 use lines::trace_line;
 use units::Addr;
 use units::refusal;
+ghost use Prim.Native.Nat.{ℕ};
 ghost use mathlib.Core.Path.{_≡_};
-ghost use Rattle.cache.specs.Cache.{ref};
+ghost use mathlib.Core.List.{List};
+ghost use Rattle.cache.specs.Cache.{ref, flush as Given·flush};
 ghost use Rattle.units.specs.Refusals.{done};
 ghost use Rattle.reading.specs.Meaning.{gives, skips, meaningOf, tallied};
-ghost use Rattle.reading.specs.Reading.{desk, outcome, answered, withTally};
+ghost use Rattle.reading.specs.Reading.{oneMore, desk, outcome, answered, withTally};
 ghost use Rattle.reading.specs.Step.{traceStep};
 
 pub(crate) fn trace_step(
@@ -34,7 +36,7 @@ pub(crate) fn trace_step(
                 pass(reading)
             }
         }
-        TraceLine::Escape => pass(reading),
+        TraceLine::Escape => flush(reading, stacks),
         TraceLine::Refused(answer) => Step {
             answer,
             next: reading,
@@ -47,16 +49,23 @@ fn pass(reading: Reading) -> Step
     ensures { λ r. ⌜ r ≡ answered done (withTally (tallied skips (reading .tally)) reading) ⌝ }
 {
     let mut next = reading;
-    let skipped = reading.tally.skipped;
-    if skipped < 4294967295 {
-        let mut tally = reading.tally;
-        tally.skipped = skipped + 1;
-        next.tally = tally;
-    }
+    let mut tally = reading.tally;
+    tally.skipped = one_more(tally.skipped);
+    next.tally = tally;
     Step {
         answer: refusal::DONE,
         next,
     }
+}
+
+// A count with one more in it, which never goes back to 0.
+fn one_more(n: u32) -> u32
+    ensures { λ r. ⌜ r ≡ oneMore n ⌝ }
+{
+    if n < 4294967295 {
+        return n + 1;
+    }
+    n
 }
 
 // The line is a reference that is counted.
@@ -71,6 +80,29 @@ fn take(reading: Reading, a: Addr, stacks: &mut [u32], counts: &mut [u32]) -> St
     let reply = opened.take_ref(stacks, counts, a);
     let state = reply.state;
     next.opened = state;
+    Step {
+        answer: reply.answer,
+        next,
+    }
+}
+
+// The line is an escape: every stack is emptied, and that is counted.
+fn flush(reading: Reading, stacks: &mut [u32]) -> Step
+    ensures { λ r. ⌜
+        ((ct : List ℕ) → outcome (r .answer) (desk (r .next) (now (stacks .exit)) ct)
+        ≡ traceStep (desk reading (now (stacks .entry)) ct) (gives Given·flush))
+        ⌝ }
+{
+    let mut next = reading;
+    let opened = reading.opened;
+    let reply = opened.flush(stacks);
+    let state = reply.state;
+    next.opened = state;
+    if reply.answer == refusal::DONE {
+        let mut tally = reading.tally;
+        tally.flushes = one_more(tally.flushes);
+        next.tally = tally;
+    }
     Step {
         answer: reply.answer,
         next,

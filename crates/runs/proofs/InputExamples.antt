@@ -4,7 +4,7 @@ use mathlib.Core.Path.{_≡_, refl}
 use mathlib.Core.List.{List, [], _∷_, _++_, map}
 use lib.ListN.{replicate}
 use Rattle.lists.specs.Tests.{anyTo, allLe}
-use Rattle.cache.specs.Cache.{blockOf, ref}
+use Rattle.cache.specs.Cache.{blockOf, ref, flush}
 use Rattle.taking.specs.Opening.{unopened}
 use Rattle.lines.specs.Bytes.{text}
 use Rattle.lines.specs.TraceLine.{inAddress, inGap, atGap, atLabel, traceLineOf}
@@ -32,6 +32,9 @@ table =
     ∷ (order (text "room=4") (text "refs=9") ++ begin ++ trace ++ (text "2 50" ∷ []), endsAt 6 16)
     ∷ (order (text "room=4") (text "refs=9") ++ begin ++ trace ++ (text "2 4f" ∷ []), endsAt 0 16)
     ∷ (order (text "room=4") (text "refs=9") ++ (text "kinds=data" ∷ begin) ++ trace ++ (text "2 50" ∷ []), endsAt 0 17)
+    ∷ (order (text "room=4") (text "refs=9") ++ begin ++ trace ++ (text "4 0" ∷ text "2 50" ∷ []), endsAt 0 17)
+    ∷ (order (text "room=4") (text "refs=8") ++ begin ++ trace ++ (text "4 0" ∷ text "2 0" ∷ []), endsAt 5 17)
+    ∷ (order (text "room=8") (text "refs=9") ++ begin ++ (text "4" ∷ []), endsAt 11 8)
     ∷ (order (text "room=8") (text "refs=9") ++ begin ++ (text "2 0" ∷ text "2 0x10" ∷ text "2 0" ∷ []), endsAt 11 9)
     ∷ (order (text "room=8") (text "refs=9") ++ begin ++ begin, endsAt 11 8)
     ∷ (order (text "room=9") (text "refs=9") ++ begin ++ trace, endsAt 2 7)
@@ -48,6 +51,15 @@ input-examples = refl
 
 abbrev counting : List (List ℕ) → List (List ℕ)
 counting kinds = order (text "room=8") (text "refs=9") ++ kinds ++ begin ++ trace
+
+-- a flush is given under every kind
+abbrev flushing : List (List ℕ) → List (List ℕ)
+flushing kinds = order (text "room=8") (text "refs=9") ++ kinds ++ begin ++ (text "0 40" ∷ text "4 ff" ∷ text "2 0" ∷ [])
+
+pub flush-examples : map givenOf (flushing [] ∷ flushing (text "kinds=data" ∷ []) ∷ flushing (text "kinds=fetch" ∷ []) ∷ [])
+    ≡ (ref 64 ∷ flush ∷ ref 0 ∷ []) ∷ (ref 64 ∷ flush ∷ []) ∷ (flush ∷ ref 0 ∷ []) ∷ []
+unfolding headerOf traceOf meantIn givenIn traceLineOf atLabel atGap inGap inAddress orderLineOf numbered whole startsWith isNumber allDecimal decimal
+flush-examples = refl
 
 pub reference-examples : map givenOf (counting [] ∷ counting (text "kinds=data" ∷ []) ∷ [])
     ≡ map (map ref) ((0 ∷ 16 ∷ 32 ∷ 0 ∷ 20 ∷ 64 ∷ 0 ∷ 32 ∷ []) ∷ (64 ∷ []) ∷ [])

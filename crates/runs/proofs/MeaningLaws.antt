@@ -1,7 +1,7 @@
 -- What lines of the trace come to: of every line, in each case; of one line more; and on a desk, what those so far have left there.
 -- Assumes nothing.
-use Prim.Native.Nat.{ℕ, suc, _+_, _≤_, _<_, min}
-use mathlib.Core.Path.{_≡_, refl, sym, ap, _∙_}
+use Prim.Native.Nat.{ℕ, suc, _+_, _≤_, _<_}
+use mathlib.Core.Path.{_≡_, refl, sym, ap, ap₂, _∙_}
 use mathlib.Core.Bool.{true}
 use mathlib.Core.List.{List, [], _∷_, _++_, append-assoc, append-nil}
 use native.Mathlib.Omega.{arith}
@@ -9,14 +9,15 @@ use lib.ListN.{length, length-append}
 use Rattle.lists.specs.Sums.{total}
 use Rattle.lists.proofs.Cases.{picked}
 use Rattle.lists.proofs.SumLaws.{total-append}
-use Rattle.cache.specs.Cache.{Given, ref, referred}
+use Rattle.cache.specs.Cache.{Given, ref, flush, referred, flushed}
 use Rattle.units.specs.Refusals.{badTraceLine}
 use Rattle.lines.specs.declared.Kinds.{Kinds}
 use Rattle.lines.specs.declared.TraceLine.{TraceLine}
 use Rattle.lines.specs.OrderLine.{countsKind}
 use Rattle.lines.proofs.CaseLaws.{trace-cases}
+use Rattle.reading.specs.declared.Tally.{Tally}
 use Rattle.reading.specs.Meaning.{Meaning, gives, skips, fails, meant, meaningOf, tallied, givenBy, givenIn, skippedBy, talliedIn}
-use Rattle.reading.specs.Reading.{withSkipped, Desk, worldOf}
+use Rattle.reading.specs.Reading.{Desk, worldOf}
 use Rattle.reading.specs.Step.{inTrace, linesMost}
 use Rattle.runs.specs.Input.{meantIn}
 use Rattle.calls.proofs.HistoryLaws.{History}
@@ -27,7 +28,7 @@ pub meaning-cases : (P : Meaning → Type 0) → ((g : Given) → P (gives g)) �
 meaning-cases P given skipped failed kinds line =
     trace-cases (λ (t : TraceLine). P (meant kinds t))
     (λ kind a. picked P (countsKind kinds kind) (λ e. given (ref (a .0))) (λ e. skipped))
-    skipped failed line
+    (given flush) failed line
 
 pub meant-length : (kinds : Kinds) (lines : List (List ℕ)) → length (meantIn kinds lines) ≡ length lines
 unfolding meantIn
@@ -45,31 +46,10 @@ pub given-more : (past : List Meaning) (m : Meaning) → givenIn (past ++ (m ∷
 unfolding givenIn
 given-more past m = given-append past (m ∷ []) ∙ ap (givenIn past ++_) (append-nil (givenBy m))
 
--- ---- their tally
-
-skipped-few : (l : List Meaning) → total skippedBy l ≤ length l
-skipped-few [] = omega arith
-skipped-few (gives g ∷ l) = omega (arith, skipped-few l)
-skipped-few (skips ∷ l) = omega (arith, skipped-few l)
-skipped-few (fails n ∷ l) = omega (arith, skipped-few l)
-
--- one more is counted, for the count never stops short
-pub tally-more : (past : List Meaning) (m : Meaning) → length past < linesMost → tallied m (talliedIn past) ≡ talliedIn (past ++ (m ∷ []))
-tally-more past (gives g) fits =
-    let n : total skippedBy past ≡ total skippedBy (past ++ (gives g ∷ [])) = omega (arith, total-append skippedBy past (gives g ∷ [])) in
-    ap (λ (n : ℕ). withSkipped n (talliedIn past)) n
-tally-more past skips fits =
-    let n : min (total skippedBy past + 1) 4294967295 ≡ total skippedBy (past ++ (skips ∷ [])) =
-    omega (arith, skipped-few past, total-append skippedBy past (skips ∷ [])) in
-    ap (λ (n : ℕ). withSkipped n (talliedIn past)) n
-tally-more past (fails k) fits =
-    let n : total skippedBy past ≡ total skippedBy (past ++ (fails k ∷ [])) = omega (arith, total-append skippedBy past (fails k ∷ [])) in
-    ap (λ (n : ℕ). withSkipped n (talliedIn past)) n
-
--- ---- each is told once: it is a reference, or it is skipped
+-- ---- each is told once: it is a reference, it is skipped, or it flushes
 
 abbrev pub toldBy : Meaning → ℕ
-toldBy m = total referred (givenBy m) + skippedBy m
+toldBy m = total referred (givenBy m) + skippedBy m + total flushed (givenBy m)
 
 -- every one of them is
 abbrev pub AllTold : List Meaning → Type 0
@@ -80,15 +60,47 @@ told-more past m one all = omega (arith, one, all, total-append toldBy past (m �
 
 pub told-given : (g : Given) → toldBy (gives g) ≡ 1
 told-given (ref a) = refl
+told-given flush = refl
 
-told-total : (l : List Meaning) → total toldBy l ≡ total referred (givenIn l) + total skippedBy l
+told-most : (m : Meaning) → toldBy m ≤ 1
+told-most (gives g) = omega (arith, told-given g)
+told-most skips = omega arith
+told-most (fails n) = omega arith
+
+told-few : (l : List Meaning) → total toldBy l ≤ length l
+told-few [] = omega arith
+told-few (m ∷ l) = omega (arith, told-few l, told-most m)
+
+told-total : (l : List Meaning) → total toldBy l ≡ total referred (givenIn l) + total skippedBy l + total flushed (givenIn l)
 unfolding givenIn
 told-total [] = refl
-told-total (m ∷ l) = omega (arith, told-total l, total-append referred (givenBy m) (givenIn l))
+told-total (m ∷ l) = omega (arith, told-total l, total-append referred (givenBy m) (givenIn l), total-append flushed (givenBy m) (givenIn l))
 
--- so the references and the skipped add up to the lines
-pub told-in-all : (l : List Meaning) → AllTold l → total referred (givenIn l) + talliedIn l .skipped ≡ length l
+-- so the references, the skipped and the flushes add up to the lines
+pub told-in-all : (l : List Meaning) → AllTold l → total referred (givenIn l) + talliedIn l .skipped + talliedIn l .flushes ≡ length l
 told-in-all l all = sym (told-total l) ∙ all
+
+-- ---- their tally
+
+abbrev tallyOf : ℕ → ℕ → Tally
+tallyOf skipped flushes = record { skipped = skipped; flushes = flushes }
+
+pub tally-none : tallyOf 0 0 ≡ talliedIn []
+unfolding givenIn
+tally-none = refl
+
+tally-is : (past : List Meaning) (m : Meaning) (n k : ℕ) → n ≡ total skippedBy past + skippedBy m
+    → k ≡ total flushed (givenIn past) + total flushed (givenBy m) → tallyOf n k ≡ talliedIn (past ++ (m ∷ []))
+tally-is past m n k p q =
+    ap₂ tallyOf (omega (arith, p, total-append skippedBy past (m ∷ [])))
+    (q ∙ sym (total-append flushed (givenIn past) (givenBy m)) ∙ ap (total flushed) (sym (given-more past m)))
+
+-- one more is counted, for no count stops short
+pub tally-more : (past : List Meaning) (m : Meaning) → length past < linesMost → tallied m (talliedIn past) ≡ talliedIn (past ++ (m ∷ []))
+tally-more past (gives (ref a)) fits = tally-is past (gives (ref a)) _ _ (omega arith) (omega arith)
+tally-more past (gives flush) fits = tally-is past (gives flush) _ _ (omega arith) (omega (arith, told-few past, told-total past))
+tally-more past skips fits = tally-is past skips _ _ (omega (arith, told-few past, told-total past)) (omega arith)
+tally-more past (fails k) fits = tally-is past (fails k) _ _ (omega arith) (omega arith)
 
 -- ---- on a desk
 

@@ -31,7 +31,7 @@ use Rattle.runs.specs.Endings.{Ending, endsAt, traceEnding, inputEnding}
 use Rattle.runs.proofs.InputLaws.{run-determined}
 use Rattle.calls.proofs.AnswerLaws.{count-is}
 use Rattle.calls.proofs.QuestionLaws.{misses-are}
-use Rattle.runs.proofs.MeaningLaws.{Stands, told-in-all, meant-length}
+use Rattle.runs.proofs.MeaningLaws.{Stands, told-in-all, meant-length, tally-none}
 use Rattle.runs.proofs.NumberLaws.{step-reported}
 use Rattle.runs.proofs.HeaderLaws.{Heading, Begun, few-said}
 use Rattle.runs.proofs.BeginLaws.{step-headed}
@@ -123,7 +123,7 @@ run-leads (line ∷ more) d said h counted =
 -- ---- from the start
 
 starts : Heading start []
-starts = record { stage = omega arith; six = refl; kinds = λ h. refl; reads = refl; tally = refl }
+starts = record { stage = omega arith; six = refl; kinds = λ h. refl; reads = refl; tally = tally-none }
 
 -- of any run within the contracts
 module _ (st ct : List ℕ) (lines : List (List ℕ)) (o : Outcome) (run : Runs (desk start st ct) lines o) where
@@ -163,8 +163,8 @@ module _ (st ct : List ℕ) (lines : List (List ℕ)) (o : Outcome) (run : Runs 
     program-tally = leads .end done .stands .tally
 
     -- they add up to the lines of the trace
-    pub program-skipped : o .left .reading .opened .taken + o .left .reading .tally .skipped ≡ length (traceOf lines)
-    program-skipped =
-        ap₂ (λ (refs : ℕ) (t : Tally). refs + t .skipped) program-refs program-tally
+    pub program-lines : (let r = o .left .reading in r .opened .taken + r .tally .skipped + r .tally .flushes) ≡ length (traceOf lines)
+    program-lines =
+        ap₂ (λ (refs : ℕ) (t : Tally). refs + t .skipped + t .flushes) program-refs program-tally
         ∙ told-in-all (meantOf lines) (leads .end done .stands .told)
         ∙ meant-length (kindsIn (headerOf lines)) (traceOf lines)

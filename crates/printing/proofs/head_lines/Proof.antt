@@ -13,20 +13,21 @@ use Rattle.printing.proofs.head_lines.Statement.{statement}
 use Rattle.printing.proofs.head_lines.Tie as tie
 
 abbrev headForm : List ℕ
-headForm = text "edition=#\nrefs=#\nskipped=#\n"
+headForm = text "edition=#\nrefs=#\nskipped=#\nflushes=#\n"
 
 -- its numbers, in their order
 abbrev numbersOf : ℕ → Tally → List ℕ
-numbersOf refs tally = 1 ∷ refs ∷ tally .skipped ∷ []
+numbersOf refs tally = 2 ∷ refs ∷ tally .skipped ∷ tally .flushes ∷ []
 
-heads : (a b c : List ℕ)
-    → (text "edition=" ++ (a ++ (10 ∷ []))) ++ ((text "refs=" ++ (b ++ (10 ∷ []))) ++ (text "skipped=" ++ (c ++ (10 ∷ []))))
-    ≡ text "edition=" ++ (a ++ (10 ∷ (text "refs=" ++ (b ++ (10 ∷ (text "skipped=" ++ (c ++ (10 ∷ []))))))))
-heads a b c = simp append-assoc
+heads : (a b c d : List ℕ)
+    → (text "edition=" ++ (a ++ (10 ∷ [])))
+    ++ ((text "refs=" ++ (b ++ (10 ∷ []))) ++ ((text "skipped=" ++ (c ++ (10 ∷ []))) ++ (text "flushes=" ++ (d ++ (10 ∷ [])))))
+    ≡ text "edition=" ++ (a ++ (10 ∷ (text "refs=" ++ (b ++ (10 ∷ (text "skipped=" ++ (c ++ (10 ∷ (text "flushes=" ++ (d ++ (10 ∷ [])))))))))))
+heads a b c d = simp append-assoc
 
 head-form : (refs : ℕ) (tally : Tally) → filled headForm (numbersOf refs tally) ≡ headLines refs tally
 unfolding filled fieldsAfter
-head-form refs tally = sym (heads (decimalOf 1) (decimalOf refs) (decimalOf (tally .skipped)))
+head-form refs tally = sym (heads (decimalOf 2) (decimalOf refs) (decimalOf (tally .skipped)) (decimalOf (tally .flushes)))
 
 -- room for the longest line is room for it
 head-most : most headForm ≤ lineMost
@@ -48,4 +49,7 @@ returns-2 c =
 
 -- closed by search
 pub head-lines-spec : {M : Type 1} → statement M
-head-lines-spec = tie.close (tie.spec returns (λ c. search needs) (λ c. search needs) (λ c. search needs) fill-requires (λ c. search needs) returns-2)
+head-lines-spec =
+    tie.close
+    (tie.spec
+    returns (λ c. search needs) (λ c. search needs) (λ c. search needs) (λ c. search needs) fill-requires (λ c. search needs) returns-2)

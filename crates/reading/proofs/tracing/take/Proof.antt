@@ -1,5 +1,4 @@
 -- `take` meets its contract: the state that a taking hands back goes into the next state. Assumes nothing.
-use Rattle.cache.specs.Cache.{ref}
 use Rattle.taking.specs.World.{world}
 use Rattle.reading.specs.Reading.{desk}
 use Rattle.reading.proofs.StepLaws.{taken-outcome}
@@ -12,7 +11,7 @@ returns c =
     let called = c .before .before .before .before .before in
     let a = called .before .before .before .before .before .before .args in
     let call = called .take-ref in
-    taken-outcome (desk (a .reading) (a .stacks .now) (a .counts .now)) (ref (a .a .0)) (call .result .answer)
+    taken-outcome (desk (a .reading) (a .stacks .now) (a .counts .now)) (a .a .0) (call .result .answer)
     (world (call .result .state) (call .last .1 .0) (call .last .1 .1 .0)) (call .ensures)
 
 -- closed by search

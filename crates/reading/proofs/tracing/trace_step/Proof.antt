@@ -52,8 +52,10 @@ returns-2 c =
 
 returns-3 : tie.Need-returns-3
 returns-3 c =
-    let at = c .before .before .before in
-    told at (c .before .enum-told .given .1) (ap (λ (s : Step). stays s (deskAt at)) (c .pass2 .ensures))
+    let flushed = c .before .before in
+    let read = flushed .before .before in
+    let at = read .before .before in
+    told at (read .enum-told .given .1) (flushed .flush .ensures (startOf at .args .counts .now))
 
 returns-4 : tie.Need-returns-4
 returns-4 c =
@@ -67,4 +69,4 @@ trace-step-spec =
     tie.close
     (tie.spec (λ c κs. search needs) (λ c. search needs) (λ c κs. search needs) (λ c κs. search needs)
     (λ c κs. search needs) (λ c. search needs) (λ c κs. search needs) (λ c. search needs) (λ c. search needs)
-    (λ c. search needs) returns returns-2 returns-3 returns-4)
+    (λ c. search needs) returns returns-2 (λ c. search needs) returns-3 returns-4)
