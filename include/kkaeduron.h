@@ -1,4 +1,5 @@
-/* Kkaeduron's library calls for C: exact miss counts of LRU caches from references taken one by one, and a stripper.
+/* Kkaeduron's library calls for C: exact miss counts of LRU caches from references taken one by one, with flushes
+ * among them, and a stripper.
  *
  * docs/SCOPE.md says what each call does; docs/LINKING.md says how to link. Every call returns, for any numbers and any
  * contents of what it is lent, with one of the answers below; the answer, the state and all that was lent are then
@@ -81,6 +82,13 @@ uint32_t kkaeduron_take(uint32_t state[KKAEDURON_STATE_NUMBERS],
                         uint32_t *counts, size_t counts_length,
                         uint32_t address);
 
+/* Flushes: every stack of the order is emptied, and its room is free again. What was used of it in the stack table becomes
+ * zero, and its used length 0; taken, the counts and the rest of the stack table stay as they were.
+ * Refused with 1, 2, 4. A refusal leaves the state and the stack table as they were.
+ * After an opening, with the state handed on and that stack table lent, it is never refused. */
+uint32_t kkaeduron_flush(uint32_t state[KKAEDURON_STATE_NUMBERS],
+                         uint32_t *stacks, size_t stacks_length);
+
 /* The misses of the cache (b, s, w), blocks of 2^b bytes, 2^s sets and w ways, go to *misses: taken less the counts at
  * depths 0 to w - 1. Refused with 1, 3, 4, 8, 7; *misses is then 0. A question leaves the state and the counts as they
  * are, refused or not. */
@@ -101,7 +109,8 @@ uint32_t kkaeduron_ratios(const uint32_t state[KKAEDURON_STATE_NUMBERS],
 /* Strips a list of addresses: those that miss in the cache of blocks of 2^b bytes, 2^s sets and 1 way go to the front
  * of out, in order, and how many they are goes to *kept. The rest of out is untouched. filter[i] is then the last block
  * of set i plus one, or 0 where none came; what it held before does not matter, and the entries from 2^s on are
- * untouched. b and s are within an order's limits for them.
+ * untouched. b and s are within an order's limits for them. A strip knows no flush: it covers the references between two
+ * of them, one call for each such run.
  * Refused with 1, 12, 13; *kept is then 0. A refusal leaves filter and out as they were, but 13 leaves the first 2^s
  * entries of filter zero. */
 uint32_t kkaeduron_strip(const uint32_t *list, size_t list_length,

@@ -1,4 +1,5 @@
-/* The worked trace of docs/SCOPE.md through the library: its misses, the ratios of one cache, a strip, and a refusal. */
+/* The worked trace of docs/SCOPE.md through the library: its misses, the ratios of one cache, a flush and the
+ * trace again, a strip, and a refusal. */
 #include <inttypes.h>
 #include <stdio.h>
 
@@ -25,11 +26,14 @@ static int refused(const char *call, uint32_t answer)
     return answer != KKAEDURON_DONE;
 }
 
+static int open_order(void)
+{
+    return !refused("open", kkaeduron_open(BMIN, BMAX, SMAX, WAYS, ROOM, REFS, state, stacks, LENGTH(stacks), counts,
+                                           LENGTH(counts)));
+}
+
 static int take_all(void)
 {
-    if (refused("open", kkaeduron_open(BMIN, BMAX, SMAX, WAYS, ROOM, REFS, state, stacks, LENGTH(stacks), counts,
-                                       LENGTH(counts))))
-        return 0;
     for (size_t i = 0; i < LENGTH(trace); i++)
         if (refused("take", kkaeduron_take(state, stacks, LENGTH(stacks), counts, LENGTH(counts), trace[i])))
             return 0;
@@ -52,6 +56,14 @@ static void print_ratios(uint32_t b, uint32_t s, uint32_t w)
                ratios[KKAEDURON_MISS_RATIO], ratios[KKAEDURON_TRAFFIC_RATIO]);
 }
 
+static int flush(void)
+{
+    if (refused("flush", kkaeduron_flush(state, stacks, LENGTH(stacks))))
+        return 0;
+    printf("flush\n");
+    return 1;
+}
+
 static void print_stripped(uint32_t b, uint32_t s)
 {
     uint32_t filter[4], out[LENGTH(trace)];
@@ -66,12 +78,15 @@ static void print_stripped(uint32_t b, uint32_t s)
 
 int main(void)
 {
-    if (!take_all())
+    if (!open_order() || !take_all())
         return 1;
     for (uint32_t s = 0; s <= SMAX; s++)
         for (uint32_t w = 1; w <= WAYS; w++)
             print_misses(4, s, w);
     print_ratios(4, 1, 2);
+    if (!flush() || !take_all())
+        return 1;
+    print_misses(4, 1, 2); /* every set was empty again: twice the 5 misses */
     print_stripped(4, 2);
     print_misses(5, 0, 1); /* the order has no blocks of 2^5 bytes */
     return 0;

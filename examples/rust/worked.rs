@@ -1,4 +1,5 @@
-//! The worked trace of docs/SCOPE.md through the library: its misses, the ratios of one cache, a strip, and a refusal.
+//! The worked trace of docs/SCOPE.md through the library: its misses, the ratios of one cache, a flush and
+//! the trace again, a strip, and a refusal.
 
 /// The static library, as include/kkaeduron.h declares it: a slice is a pointer and then its length, and what has a
 /// fixed size is a reference.
@@ -13,6 +14,7 @@ mod kkaeduron {
             state: &mut [u32; STATE_NUMBERS], stacks: *mut u32, stacks_length: usize, counts: *mut u32, counts_length: usize,
             address: u32,
         ) -> u32;
+        fn kkaeduron_flush(state: &mut [u32; STATE_NUMBERS], stacks: *mut u32, stacks_length: usize) -> u32;
         fn kkaeduron_misses(
             state: &[u32; STATE_NUMBERS], counts: *const u32, counts_length: usize, b: u32, s: u32, w: u32, misses: &mut u32,
         ) -> u32;
@@ -95,6 +97,12 @@ mod kkaeduron {
             done(answer, ())
         }
 
+        pub fn flush(&mut self) -> Result<(), u32> {
+            let (state, stacks) = (&mut self.state, &mut self.stacks);
+            let answer = unsafe { kkaeduron_flush(state, stacks.as_mut_ptr(), stacks.len()) };
+            done(answer, ())
+        }
+
         pub fn taken(&self) -> u32 {
             self.state[6]
         }
@@ -142,13 +150,18 @@ mod kkaeduron {
     }
 }
 
-fn main() -> Result<(), u32> {
-    let trace = [0x0, 0x10, 0x20, 0x0, 0x14, 0x40, 0x0, 0x20];
-    let mut opened = kkaeduron::Opened::open(4, 4, 1, 2, 8, 100)?;
-    for address in trace {
+fn take_all(opened: &mut kkaeduron::Opened, trace: &[u32]) -> Result<(), u32> {
+    for &address in trace {
         opened.take(address)?;
     }
     println!("refs={}", opened.taken());
+    Ok(())
+}
+
+fn main() -> Result<(), u32> {
+    let trace = [0x0, 0x10, 0x20, 0x0, 0x14, 0x40, 0x0, 0x20];
+    let mut opened = kkaeduron::Opened::open(4, 4, 1, 2, 8, 100)?;
+    take_all(&mut opened, &trace)?;
     for s in 0..=1 {
         for w in 1..=2 {
             println!("b=4 s={s} w={w} misses={}", opened.misses(4, s, w)?);
@@ -156,6 +169,10 @@ fn main() -> Result<(), u32> {
     }
     let [miss, traffic] = opened.ratios(4, 1, 2)?;
     println!("b=4 s=1 w=2 miss ratio {miss:.3} traffic ratio {traffic:.1}");
+    opened.flush()?;
+    println!("flush");
+    take_all(&mut opened, &trace)?;
+    println!("b=4 s=1 w=2 misses={}", opened.misses(4, 1, 2)?); // every set was empty again: twice the 5 misses
     let kept: Vec<String> = kkaeduron::strip(&trace, 4, 2)?
         .iter()
         .map(|address| format!("{address:x}"))

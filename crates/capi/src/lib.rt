@@ -6,8 +6,10 @@ use strip::strip;
 use taking::Opened;
 use units::Addr;
 use units::ByteExp;
+ghost use Prim.Native.Nat.{ℕ};
 ghost use mathlib.Core.Path.{_≡_};
-ghost use Rattle.cache.specs.Cache.{ref};
+ghost use mathlib.Core.List.{List};
+ghost use Rattle.cache.specs.Cache.{ref, flush};
 ghost use Rattle.strip.specs.Strip.{Strips};
 ghost use Rattle.capi.specs.Boundary.{numbersOf, lent, Says, CallsOpen, CallsTake, CallsMisses, CallsRatios};
 
@@ -58,6 +60,20 @@ pub extern "C" fn kkaeduron_take(
     let reply = handed.take_ref(stacks, counts, Addr(addr));
     let opened = reply.state;
     *state = numbers_of(opened);
+    reply.answer
+}
+
+// Empties every stack, and puts the state that is handed back in the place of the one that was handed in.
+#[no_mangle]
+pub extern "C" fn kkaeduron_flush(state: &mut [u32; STATE_NUMBERS], stacks: &mut [u32]) -> u32
+    ensures { λ r. ⌜ ((ct : List ℕ) → CallsTake
+        (lent (now (state .entry)) (now (stacks .entry)) ct) flush
+        r (lent (now (state .exit)) (now (stacks .exit)) ct)) ⌝ }
+{
+    let handed = state_from(*state);
+    let reply = handed.flush(stacks);
+    let emptied = reply.state;
+    *state = numbers_of(emptied);
     reply.answer
 }
 

@@ -1,19 +1,20 @@
 -- What the contracts of the calls and the laws of their sequences come to, put as the claims say it. Assumes nothing.
 use Prim.Native.Nat.{ℕ, _+_, _-_, _*_, _≤_, _<_}
 use mathlib.Core.Path.{_≡_, refl, sym, ap, ap₂, _∙_, subst}
-use mathlib.Core.Bool.{Bool, true, false, cond}
+use mathlib.Core.Bool.{Bool, true, cond}
 use mathlib.Core.List.{List, []}
 use native.Mathlib.Omega.{arith}
 use lib.Dec.{eqb}
-use lib.ListN.{drop, getD}
+use lib.ListN.{length, drop, getD}
 use borrow.Author.Tests.{eqb-true, eqb-false, ne-eqb}
 use Rattle.lists.specs.Members.{mem, Distinct}
 use Rattle.lists.specs.Sums.{total}
 use Rattle.lists.specs.Tests.{anyTo}
 use Rattle.lists.proofs.Cases.{cases}
+use Rattle.lists.proofs.PartLaws.{lengths-past, lengths-zero}
 use Rattle.lists.proofs.TestLaws.{settled-done, settled-not}
 use Rattle.lists.proofs.ZeroLaws.{drop-zeroed}
-use Rattle.cache.specs.Cache.{Given, ref, referred, eventsOf, missesOver}
+use Rattle.cache.specs.Cache.{Given, ref, flush, referred, eventsOf, missesOver}
 use Rattle.cache.specs.Stack.{isSeen, seenIn}
 use Rattle.cache.proofs.SeenLaws.{seen-is, no-repeats}
 use Rattle.order.specs.declared.Order.{Order}
@@ -26,12 +27,14 @@ use Rattle.taking.specs.Opening.{Opens, openAnswer, opened}
 use Rattle.taking.specs.Questions.{has, hitsOf, missesAnswer, missesOf}
 use Rattle.taking.specs.Ratios.{ratiosAnswer, ratiosOf, ratiosAt, noRatios}
 use Rattle.taking.specs.Taking.{Takes, taken, takeAnswer}
-use Rattle.taking.specs.World.{World}
+use Rattle.taking.specs.Parts.{unflushable}
+use Rattle.taking.specs.World.{World, world}
+use Rattle.taking.proofs.FlushLaws.{emptiedState, emptiedStacks, flushed-is, used-zero, unused-stay}
 use Rattle.taking.proofs.TakenLaws.{full-at, full-each}
 use Rattle.calls.specs.Answers.{isFullAfter}
 use Rattle.calls.specs.Calls.{Call, Calls}
-use Rattle.calls.proofs.AnswerLaws.{count-is, stack-is, full-by-smallest, full-at-smallest, answer-after}
-use Rattle.calls.proofs.CallLaws.{opened-is, history-after, order-after, kept-by-calls}
+use Rattle.calls.proofs.AnswerLaws.{count-is, stack-is, full-by-smallest, full-at-smallest, after-cases, answer-told, answer-after}
+use Rattle.calls.proofs.CallLaws.{call-done, opened-is, history-after, order-after, kept-by-calls}
 use Rattle.calls.proofs.HistoryLaws.{History}
 use Rattle.calls.proofs.PassedLaws.{stacks-past-taken, counts-past-taken}
 use Rattle.calls.proofs.QuestionLaws.{misses-are, misses-answered, ratios-answered, ratios-after}
@@ -84,6 +87,43 @@ taking-spares {w} {g} c =
     let left = c .left ∙ settled-not (takeAnswer w g) (taken w g) w (eqb-false (takeAnswer w g) 0 e) in
     rw left (refl, refl))
 
+-- ---- a flush that is done
+
+module _ {w w′ : World} (c : Takes w flush 0 w′) where
+  abbrev v : Opened
+  v = w .state
+
+  -- no refusal applies
+  applies-none : unflushable v (length (w .stacks)) ≡ 0
+  applies-none = sym (c .answer)
+
+  pub flushed-to : w′ ≡ world (emptiedState v (w .stacks) (w .counts)) (emptiedStacks v (w .stacks) (w .counts)) (w .counts)
+  flushed-to = call-done c ∙ flushed-is v (w .stacks) (w .counts)
+
+  pub flush-empties : (k : ℕ) → k < sizes (v .order) → usedOf (w′ .state) k ≡ 0
+  flush-empties k h = ap (λ (x : World). usedOf (x .state) k) flushed-to ∙ lengths-zero (sizes (v .order)) k (v .used) h
+
+  pub flush-zeroes : (k j : ℕ) → k < sizes (v .order) → j < usedOf v k → getD (w′ .stacks) (k * v .order .room + j) 0 ≡ 0
+  flush-zeroes k j h g =
+      ap (λ (x : World). getD (x .stacks) (k * v .order .room + j) 0) flushed-to ∙ used-zero v (w .stacks) (w .counts) applies-none k j h g
+
+  -- what stays
+  pub flush-keeps : (w′ .state .order ≡ v .order) × (w′ .state .taken ≡ v .taken) × (w′ .counts ≡ w .counts)
+  flush-keeps = (
+    ap (λ (x : World). x .state .order) flushed-to,
+    ap (λ (x : World). x .state .taken) flushed-to,
+    ap (λ (x : World). x .counts) flushed-to,
+  )
+
+  pub flush-spares-lengths : (k : ℕ) → sizes (v .order) ≤ k → usedOf (w′ .state) k ≡ usedOf v k
+  flush-spares-lengths k h =
+      ap (λ (x : World). usedOf (x .state) k) flushed-to ∙ lengths-past (λ (k : ℕ). []) (v .used) (sizes (v .order)) k h
+
+  pub flush-spares-entries : (k j : ℕ) → k < sizes (v .order) → usedOf v k ≤ j → j < v .order .room
+      → getD (w′ .stacks) (k * v .order .room + j) 0 ≡ getD (w .stacks) (k * v .order .room + j) 0
+  flush-spares-entries k j h g u =
+      ap (λ (x : World). getD (x .stacks) (k * v .order .room + j) 0) flushed-to ∙ unused-stay v (w .stacks) (w .counts) applies-none k j h g u
+
 -- ---- any calls after an opening
 
 module _ (o : Order) (w₀ w₁ : World) (opens : Opens o w₀ 0 w₁) (cs : List Call) (l : List Given) (w : World) (calls : Calls w₁ cs l w) where
@@ -133,20 +173,22 @@ module _ (o : Order) (w₀ w₁ : World) (opens : Opens o w₀ 0 w₁) (cs : Lis
           ∙ ap (λ (t : ℕ). ratiosAt (missesOver b s n l) t b) (count-is w l past),
     )
 
-  module _ (g : Given) (n : ℕ) (w′ : World) (takes : Takes w g n w′) where
-    pub answer-promised : n ≡ cond (eqb (total referred l) (o .refs)) 5 (cond (isFullAfter o l g (o .bmin .0)) 6 0)
-    answer-promised =
+  module _ (n : ℕ) (w′ : World) where
+    pub answer-promised : (a : ℕ) → Takes w (ref a) n w′
+        → n ≡ cond (eqb (total referred l) (o .refs)) 5 (cond (isFullAfter o l (ref a) (o .bmin .0)) 6 0)
+    answer-promised a takes =
         takes .answer
-        ∙ answer-after w l past g
-        ∙ ap₂ (λ (t : ℕ) (x : Order). cond (eqb t (x .refs)) 5 (cond (isFullAfter x l g (x .bmin .0)) 6 0)) (count-is w l past) same
+        ∙ answer-after w l past a
+        ∙ ap₂ (λ (t : ℕ) (x : Order). cond (eqb t (x .refs)) 5 (cond (isFullAfter x l (ref a) (x .bmin .0)) 6 0)) (count-is w l past) same
 
-    pub neither-4-nor-7 : (n ≡ 4 → ⊥) × (n ≡ 7 → ⊥)
-    neither-4-nor-7 = apart (eqb (total referred l) (o .refs)) (isFullAfter o l g (o .bmin .0)) answer-promised
-      where
-        apart : (t u : Bool) → n ≡ cond t 5 (cond u 6 0) → (n ≡ 4 → ⊥) × (n ≡ 7 → ⊥)
-        apart true u e = (λ z. omega arith, λ z. omega arith)
-        apart false true e = (λ z. omega arith, λ z. omega arith)
-        apart false false e = (λ z. omega arith, λ z. omega arith)
+    pub flush-promised : Takes w flush n w′ → n ≡ 0
+    flush-promised takes = takes .answer ∙ answer-told w l past flush
+
+    pub neither-4-nor-7 : (g : Given) → Takes w g n w′ → (n ≡ 4 → ⊥) × (n ≡ 7 → ⊥)
+    neither-4-nor-7 g takes =
+        subst (λ (m : ℕ). (m ≡ 4 → ⊥) × (m ≡ 7 → ⊥)) (sym (takes .answer ∙ answer-told w l past g))
+        (after-cases (λ (m : ℕ). (m ≡ 4 → ⊥) × (m ≡ 7 → ⊥))
+        (λ z. omega arith, λ z. omega arith) (λ z. omega arith, λ z. omega arith) (λ z. omega arith, λ z. omega arith) (w .state .order) l g)
 
   module _ (a : ℕ) where
     -- at block size k the block is new and its stack is full

@@ -11,7 +11,7 @@ use Rattle.lists.specs.Runs.{Each, without}
 use Rattle.lists.specs.Sums.{total}
 use Rattle.lists.specs.Tables.{zeroed}
 use Rattle.lists.specs.Tests.{firstOf, anyTo, allLe}
-use Rattle.cache.specs.Cache.{Given, ref, referred, eventsOf, touchesOf, simulate, isHit, missesOver}
+use Rattle.cache.specs.Cache.{Given, ref, flush, referred, flushed, eventsOf, touchesOf, simulate, isHit, missesOver}
 use Rattle.cache.specs.Stack.{isSeen, seenIn}
 use Rattle.cache.proofs.InclusionLaws.{HitToo, inclusion}
 use Rattle.cache.proofs.Worked.{trace, grid}
@@ -31,8 +31,11 @@ use Rattle.taking.proofs.TakenLaws.{take-answer-in-words}
 use Rattle.calls.specs.Calls.{Call, Calls}
 use Rattle.calls.proofs.CallLaws.{call-refused, calls-there}
 use Rattle.strip.specs.declared.Stripped.{Stripped}
+use Rattle.strip.specs.Joined.{joinedRuns, StripsTo}
 use Rattle.strip.specs.Strip.{keptOf, stripLimits, Strips}
+use Rattle.strip.proofs.JoinedLaws.{joined-all, calls-kept, whole-as-before, whole-dropped, whole-misses}
 use Rattle.strip.proofs.StripClaims.{strip-refused, strip-short, strip-untouched, left-is-kept, kept-as-before, dropped-hit, misses-same}
+use Rattle.reading.specs.declared.Tally.{Tally}
 use Rattle.reading.specs.Reading.{Desk, desk, withReading, withLines, Outcome, stays, start}
 use Rattle.reading.specs.Step.{isTooMany, longLine, Steps}
 use Rattle.reading.specs.Tables.{Allotted}
@@ -41,7 +44,7 @@ use Rattle.runs.specs.Input.{Runs, headerOf, traceOf, orderIn, givenOf}
 use Rattle.runs.specs.Endings.{inputEnding}
 use Rattle.runs.proofs.EndingLaws.{run-listed}
 use Rattle.runs.proofs.NumberLaws.{refused-line}
-use Rattle.runs.proofs.ProgramLaws.{program-answer, program-line, program-misses, program-refs, program-skipped}
+use Rattle.runs.proofs.ProgramLaws.{program-answer, program-line, program-misses, program-refs, program-tally, program-lines}
 use Rattle.feeding.specs.declared.Feeding.{Feeding}
 use Rattle.feeding.specs.Calls.{Calls as Feeds}
 use Rattle.feeding.specs.Feeding.{byLines, heldBy, start as noByte}
@@ -98,6 +101,43 @@ module _ (w : World) (a : ℕ) (n : ℕ) (w′ : World) (takes : Takes w (ref a)
   pub taking-spares-the-rest : (drop (stackNeed (w .state .order)) (w′ .stacks) ≡ drop (stackNeed (w .state .order)) (w .stacks))
       × (drop (countNeed (w .state .order)) (w′ .counts) ≡ drop (countNeed (w .state .order)) (w .counts))
   taking-spares-the-rest = outcomes.taking-spares takes
+
+-- ---- flushing in any world w; the counts are not lent
+
+module _ (w : World) (n : ℕ) (w′ : World) (flushes : Takes w flush n w′) where
+  -- the first of 1, 2, 4 that applies, else 0
+  pub demand-1-flush : n
+      ≡ firstOf
+      ((not (within (w .state .order)), 1) ∷ (ltb (length (w .stacks)) (stackNeed (w .state .order)), 2) ∷ (isForeign (w .state), 4) ∷ [])
+  demand-1-flush = flushes .answer
+
+  -- refused: nothing changes
+  pub demand-1-flush-refused : (n ≡ 0 → ⊥) → w′ ≡ w
+  demand-1-flush-refused = call-refused flushes
+
+  -- refused or done, entries past what the order needs are untouched
+  pub flush-spares-the-rest : drop (stackNeed (w .state .order)) (w′ .stacks) ≡ drop (stackNeed (w .state .order)) (w .stacks)
+  flush-spares-the-rest = outcomes.taking-spares flushes .0
+
+module _ (w w′ : World) (flushes : Takes w flush 0 w′) where
+  -- done: at each block size of the order the used length is 0, and what was used is zero
+  pub flush-empties-the-stacks : (k : ℕ) → k < sizes (w .state .order) → usedOf (w′ .state) k ≡ 0
+  flush-empties-the-stacks = outcomes.flush-empties flushes
+
+  pub flush-zeroes-what-was-used : (k j : ℕ) → k < sizes (w .state .order) → j < usedOf (w .state) k
+      → getD (w′ .stacks) (k * w .state .order .room + j) 0 ≡ 0
+  flush-zeroes-what-was-used = outcomes.flush-zeroes flushes
+
+  -- the order, the references taken and the counts stay; so do entries beyond the used lengths, and used lengths of sizes that the order lacks
+  pub flush-keeps-counts : (w′ .state .order ≡ w .state .order) × (w′ .state .taken ≡ w .state .taken) × (w′ .counts ≡ w .counts)
+  flush-keeps-counts = outcomes.flush-keeps flushes
+
+  pub flush-spares-unused : (k j : ℕ) → k < sizes (w .state .order) → usedOf (w .state) k ≤ j → j < w .state .order .room
+      → getD (w′ .stacks) (k * w .state .order .room + j) 0 ≡ getD (w .stacks) (k * w .state .order .room + j) 0
+  flush-spares-unused = outcomes.flush-spares-entries flushes
+
+  pub flush-spares-other-sizes : (k : ℕ) → sizes (w .state .order) ≤ k → usedOf (w′ .state) k ≡ usedOf (w .state) k
+  flush-spares-other-sizes = outcomes.flush-spares-lengths flushes
 
 -- ---- asking any state v and count table ct for the cache (b, s, w); the table is lent to be read only
 
@@ -176,7 +216,7 @@ pub program-tables : (o : Order) (st ct : List ℕ) → Allotted (unopened st ct
 program-tables o st ct = opening-in-program o (unopened st ct)
 
 -- ==== Demand 2: from an opening, with each call handed the state that the one before handed back and the tables untouched in between, the misses
--- given for each cache in range equal those of simulating that one cache, empty at the start, over the references taken
+-- given for each cache in range equal those of simulating that one cache, empty at the start and at each flush, over the references taken
 
 module _ (o : Order) (st ct : List ℕ) (w₁ : World) (opens : Opens o (unopened st ct) 0 w₁)
     (cs : List Call) (l : List Given) (w : World) (calls : Calls w₁ cs l w) where
@@ -189,14 +229,17 @@ module _ (o : Order) (st ct : List ℕ) (w₁ : World) (opens : Opens o (unopene
       → (q .answer ≡ 0) × (q .ratios ≡ ratiosAt (missesOver b s n l) (total referred l) b)
   demand-2-ratios = outcomes.ratios-promised o (unopened st ct) w₁ opens cs l w calls
 
-  -- 4 and 7 never come. A taking answers 5 exactly where refs is reached, 6 exactly where the distinct blocks seen at the smallest block size would
-  -- be more than room, and else 0
-  pub never-4-nor-7 : (g : Given) (n : ℕ) (w′ : World) → Takes w g n w′ → (n ≡ 4 → ⊥) × (n ≡ 7 → ⊥)
+  -- 4 and 7 never come. A reference is answered with 5 exactly where refs is reached, with 6 exactly where the distinct blocks seen since the last
+  -- flush, at the smallest block size, would be more than room, and else with 0; a flush always with 0
+  pub never-4-nor-7 : (n : ℕ) (w′ : World) (g : Given) → Takes w g n w′ → (n ≡ 4 → ⊥) × (n ≡ 7 → ⊥)
   never-4-nor-7 = outcomes.neither-4-nor-7 o (unopened st ct) w₁ opens cs l w calls
 
-  pub only-5-and-6 : (g : Given) (n : ℕ) (w′ : World) → Takes w g n w′
-      → n ≡ cond (eqb (total referred l) (o .refs)) 5 (cond (ltb (o .room) (length (seenIn (o .bmin .0) (l ++ (g ∷ []))))) 6 0)
+  pub only-5-and-6 : (n : ℕ) (w′ : World) (a : ℕ) → Takes w (ref a) n w′
+      → n ≡ cond (eqb (total referred l) (o .refs)) 5 (cond (ltb (o .room) (length (seenIn (o .bmin .0) (l ++ (ref a ∷ []))))) 6 0)
   only-5-and-6 = outcomes.answer-promised o (unopened st ct) w₁ opens cs l w calls
+
+  pub flush-never-refused : (n : ℕ) (w′ : World) → Takes w flush n w′ → n ≡ 0
+  flush-never-refused = outcomes.flush-promised o (unopened st ct) w₁ opens cs l w calls
 
   -- 6 is decided by the smallest block size alone
   pub smallest-decides-6 : (a : ℕ)
@@ -215,7 +258,8 @@ module _ (o : Order) (st ct : List ℕ) (w₁ : World) (opens : Opens o (unopene
   pub taken-counted : w .state .taken ≡ total referred l
   taken-counted = outcomes.taken-total o (unopened st ct) w₁ opens cs l w calls
 
-  -- each stack is without repeats, a block is in it exactly if it was referenced, and the entries beyond its used length are zero
+  -- each stack is without repeats, a block is in it exactly if it was referenced since the last flush, and the entries beyond its used length
+  -- are zero
   pub stack-distinct : (k : ℕ) → k < sizes o → Distinct (stackAt (w .state) (w .stacks) k)
   stack-distinct = outcomes.stack-once o (unopened st ct) w₁ opens cs l w calls
 
@@ -235,7 +279,7 @@ pub calls-exist : (w : World) (cs : List Call) → (l : List Given) × (w′ : W
 calls-exist = calls-there
 
 -- ---- so in the program: where the run is done, the misses given for each cache of the order in the lines are those of that one cache over what
--- the lines give, of which `refs=` counts the references
+-- the lines give: `refs=` counts the references in that and `flushes=` the flushes, and with `skipped=` they add up to the lines of the trace
 
 module _ (st ct : List ℕ) (lines : List (List ℕ)) (o : Outcome) (run : Runs (desk start st ct) lines o) (done : o .answer ≡ 0) where
   pub demand-2-program : (b s w : ℕ) → has (orderIn (headerOf lines)) b s w ≡ true
@@ -246,8 +290,11 @@ module _ (st ct : List ℕ) (lines : List (List ℕ)) (o : Outcome) (run : Runs 
   pub refs-printed : o .left .reading .opened .taken ≡ total referred (givenOf lines)
   refs-printed = program-refs st ct lines o run done
 
-  pub skipped-printed : o .left .reading .opened .taken + o .left .reading .tally .skipped ≡ length (traceOf lines)
-  skipped-printed = program-skipped st ct lines o run done
+  pub flushes-printed : o .left .reading .tally .flushes ≡ total flushed (givenOf lines)
+  flushes-printed = ap (λ (t : Tally). t .flushes) (program-tally st ct lines o run done)
+
+  pub lines-add-up : (let r = o .left .reading in r .opened .taken + r .tally .skipped + r .tally .flushes) ≡ length (traceOf lines)
+  lines-add-up = program-lines st ct lines o run done
 
 -- ---- and from bytes to bytes: an input comes in any slices, and is cut into lines at each LF (crates/feeding/specs/Lines.antt)
 
@@ -289,7 +336,7 @@ twelve-cases = grid
 
 -- ==== Demand 3: over that same definition, at one block size
 
--- a reference that hits in a cache also hits in every cache with at least as many sets and ways
+-- a reference that hits in a cache also hits in every cache with at least as many sets and ways, across flushes too
 pub demand-3-inclusion : (b s w s′ w′ : ℕ) → s ≤ s′ → w ≤ w′ → (l : List Given)
     → Each HitToo (simulate s w (eventsOf b l)) (simulate s′ w′ (eventsOf b l))
 demand-3-inclusion b s w s′ w′ sets ways l = inclusion s w s′ w′ sets ways (eventsOf b l)
@@ -313,3 +360,29 @@ module _ (l : List ℕ) (b s : ℕ) (filter out : List ℕ) (r : Stripped) (filt
     -- so the misses of the stripped list are those of the full list
     pub demand-3-misses : missesOver b s′ (suc w) (map ref (take (r .kept) out′)) ≡ missesOver b s′ (suc w) (map ref l)
     demand-3-misses = ap (λ (k : List ℕ). missesOver b s′ (suc w) (map ref k)) (left-is-kept strip done) ∙ misses-same b s s′ w sets l
+
+-- ---- and across flushes: what is given is runs of references with a flush between two of them, and strip covers one run
+
+pub runs-of-all : (l : List Given) → (r : List ℕ) × (rs : List (List ℕ)) × (l ≡ joinedRuns r rs)
+runs-of-all = joined-all
+
+-- each run is stripped by a call of its own, over any filter and output, and what the calls keep, k of the first and ks of the others, is joined
+module _ (b s : ℕ) (r k : List ℕ) (rs ks : List (List ℕ)) (first : StripsTo b s r k) (others : Each (StripsTo b s) rs ks) where
+  -- the whole then has exactly the flushes, and the references that miss in the direct-mapped cache of that many sets, in order
+  pub demand-3-joined : joinedRuns k ks ≡ without isHit (simulate s 1 (eventsOf b (joinedRuns r rs))) (joinedRuns r rs)
+  demand-3-joined = calls-kept b s r k rs ks first others
+
+  module _ (s′ w : ℕ) (sets : s ≤ s′) where
+    -- each of these hits or misses as it did
+    pub demand-3-joined-as-before : simulate s′ (suc w) (eventsOf b (joinedRuns k ks))
+        ≡ without isHit (simulate s 1 (eventsOf b (joinedRuns r rs))) (simulate s′ (suc w) (eventsOf b (joinedRuns r rs)))
+    demand-3-joined-as-before =
+        ap (λ (l : List Given). simulate s′ (suc w) (eventsOf b l)) demand-3-joined ∙ whole-as-before b s s′ w sets (joinedRuns r rs)
+
+    -- each dropped reference was a hit
+    pub demand-3-joined-dropped : Each HitToo (simulate s 1 (eventsOf b (joinedRuns r rs))) (simulate s′ (suc w) (eventsOf b (joinedRuns r rs)))
+    demand-3-joined-dropped = whole-dropped b s s′ w sets (joinedRuns r rs)
+
+    -- so the misses are those of the whole
+    pub demand-3-joined-misses : missesOver b s′ (suc w) (joinedRuns k ks) ≡ missesOver b s′ (suc w) (joinedRuns r rs)
+    demand-3-joined-misses = ap (missesOver b s′ (suc w)) demand-3-joined ∙ whole-misses b s s′ w sets (joinedRuns r rs)
