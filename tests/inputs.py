@@ -1,8 +1,8 @@
 """Inputs for the sweep program: the stored ones and where their outputs stand, fixed ones by name, and random ones by seed.
 
-Random traces use few blocks in few sets, so that they collide, and small rooms and ceilings, so that 5 and 6 come.
-About half of the random inputs are then damaged: bytes flipped, inserted or deleted, lines repeated, moved or
-dropped, the end cut off.
+Random traces use few blocks in few sets, so that they collide, and small rooms and ceilings, so that 5 and 6 come. Flushes
+stand anywhere in them, at their ends, where the ceiling is reached, and just before a stack would overflow. About half of
+the random inputs are then damaged: bytes flipped, inserted or deleted, lines repeated, moved or dropped, the end cut off.
 """
 import pathlib
 import random
@@ -13,6 +13,7 @@ BEGIN = b"begin=din"
 HEAD = b"\n".join(ORDER + [BEGIN, b""])
 TELLING_BYTES = b"\n\n\r\0 \t019afAFgGx/:;@`=-+\x7f\x80\xff\v\f5"
 LARGE = 3000  # references in a large random input
+FLUSH_LABEL = ord("4")
 NUMBERS_AT_A_LIMIT = [
     0, 1, 2, 7, 8, 9, 12, 13, 14, 15, 16, 17, 1024, 1025, 2730, 2731, 4096, 4097, 8192, 8193, 1048576, 1048577,
     4000000000, 4000000001, 2**32 + 2, 2**32 + 8, 9999999999, 10000000000,
@@ -48,14 +49,15 @@ def very_long_lines():
         yield "comment of 300,000 bytes", HEAD + b"2 0\n" + b"2 10 ".ljust(long, b"c") + end
         yield "gap of 300,000 bytes", HEAD + b"2" + b" " * long + b"10" + end
         yield "address of 300,000 digits", HEAD + b"2 " + b"0" * long + end
+        yield "flush with a comment of 300,000 bytes", HEAD + b"2 0\n" + b"4 0 ".ljust(long, b"c") + end
 
 
 def every_byte_in_some_places():
     """Each byte value in the places where a line is decided."""
     rest = b"\n".join(ORDER[1:] + [BEGIN, b"2 0\n"])
-    for line in (b"%c 1a c", b"2%c1a c", b"2 %c c", b"2 1%c", b"2 1%cc", b"2 12345678%c", b"2 1 %c"):
+    for line in (b"%c 1a c", b"2%c1a c", b"2 %c c", b"2 1%c", b"2 1%cc", b"2 12345678%c", b"2 1 %c", b"4%c1a", b"4 %c", b"4 1%cc"):
         for byte in range(256):
-            yield "byte %d in trace line %r" % (byte, line), HEAD + line % byte + b"\n2 10\n"
+            yield "byte %d in trace line %r" % (byte, line), HEAD + b"2 10\n" + line % byte + b"\n2 10\n"
     for line in (b"%cmin=4", b"bmin%c4", b"bmin=%c", b"bmin=1%c", b"bmin=4%c"):
         for byte in range(256):
             yield "byte %d in order line %r" % (byte, line), line % byte + b"\n" + rest
@@ -65,8 +67,8 @@ def every_byte_in_some_places():
 
 
 def every_cut_of_the_worked_input():
-    """The worked input, ending after each of its bytes."""
-    whole = HEAD + b"2 0\n2 10\n2 20\n2 0\n2 14\n0 40\n2 0\n2 20\n"
+    """The worked input, with a flush after it, ending after each of its bytes."""
+    whole = HEAD + b"2 0\n2 10\n2 20\n2 0\n2 14\n0 40\n2 0\n2 20\n4 0\n2 20\n"
     for end in range(len(whole)):
         yield "the worked input cut after %d bytes" % end, whole[:end]
 
@@ -83,7 +85,7 @@ def random_input(seed, number):
         order = random_order(rng, most_s=3, most_ways=4, rooms=[1, 3, 5, 8, 16, 64, 64], ceilings=[1, 10, 30, 100, 100])
     if rng.random() < 0.15:
         order[rng.choice(list(order))] = rng.choice(NUMBERS_AT_A_LIMIT)
-    data = joined(rng, order, trace_lines(rng, order, rng.choice([0, 5, 12, 12, 25, 40, 60])))
+    data = joined(rng, order, trace_lines(rng, order, rng.choice([0, 1, 5, 10, 12, 12, 25, 30, 30, 40, 60])))
     if rng.random() < 0.5:
         for _ in range(rng.choice([1, 1, 1, 2, 5])):
             data = damaged(rng, data)
@@ -116,12 +118,34 @@ def trace_lines(rng, order, count):
     bases = [rng.getrandbits(30) << rng.randint(0, 16) for _ in range(rng.randint(1, 4))]
     how_many = 500 if count == LARGE else rng.choice([2, 4, 6, 10, 40])
     blocks = [rng.choice(bases) ^ rng.randrange(16) << rng.randint(0, shift) for _ in range(how_many)]
-    labels = rng.choice([b"0122", b"0123", b"01234", b"01222222"])
-    lines = []
-    for _ in range(count):
-        address = (rng.choice(blocks) << b | rng.getrandbits(b)) & 0xFFFFFFFF
-        lines.append(trace_line(rng, rng.choice(labels), address))
-    return lines
+    labels = rng.choice([b"0122", b"0123", b"01222222"])
+    addresses = [(rng.choice(blocks) << b | rng.getrandbits(b)) & 0xFFFFFFFF for _ in range(count)]
+    lines = [[trace_line(rng, rng.choice(labels), address)] for address in addresses] + [[]]
+    for place in places_of_flushes(rng, order, [address >> b for address in addresses]):
+        flushes = [trace_line(rng, FLUSH_LABEL, rng.getrandbits(32)) for _ in range(rng.choice([1, 1, 1, 2, 5]))]
+        lines[place][:0] = flushes
+    return [line for part in lines for line in part]
+
+
+def places_of_flushes(rng, order, blocks):
+    """The numbers, from 0, of the references that flushes stand before; that past the last is the end of the trace."""
+    end = len(blocks)
+    way = rng.choice(["none", "few", "many", "ends", "ceiling", "room"])
+    if way == "few":
+        return rng.sample(range(end + 1), min(end + 1, rng.randint(1, 3)))
+    if way == "many":
+        return [place for place in range(end + 1) if rng.random() < 0.4]
+    if way == "ends":
+        return rng.choice([[0], [end], [0, end]])
+    if way == "ceiling":  # where every reference counts, refs is reached there
+        return [min(order["refs"], end)]
+    places, seen = [], set()
+    for place, block in enumerate(blocks if way == "room" else []):
+        if block not in seen and len(seen) == order["room"]:
+            places.append(place)
+            seen = set()
+        seen.add(block)
+    return places
 
 
 def trace_line(rng, label, address):

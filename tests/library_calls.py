@@ -3,7 +3,7 @@
 A sequence is a list of steps. A step is a tuple: a word, its numbers and its slices, as `library_driver.c` reads them:
 
     ("tables", state, stacks, counts)    the slices that the calls after it are lent, foreign or not
-    ("open", bmin, bmax, smax, ways, room, refs)         ("take", address)
+    ("open", bmin, bmax, smax, ways, room, refs)         ("take", address)         ("flush",)
     ("misses", b, s, w, misses)                          ("ratios", b, s, w, ratios)
     ("strip", b, s, addresses, filter, output, kept)
 
@@ -23,6 +23,7 @@ FIXED = {("tables", 1), ("misses", 4), ("ratios", 4), ("strip", 6)}  # the place
 ANSWERS = {
     "open": {0, 1, 2, 3},
     "take": {0, 1, 2, 3, 4, 5, 6, 7},
+    "flush": {0, 1, 2, 4},
     "misses": {0, 1, 3, 4, 8, 7},
     "ratios": {0, 1, 3, 4, 8, 7, 9},
     "strip": {0, 1, 12, 13},
@@ -32,6 +33,7 @@ TELLING_NUMBERS = [
     2**32 - 2, 2**32 - 1,
 ]  # fmt: skip
 WORKED = [0x0, 0x10, 0x20, 0x0, 0x14, 0x40, 0x0, 0x20]
+FLUSH = ("flush",)
 
 
 # What the steps look like.
@@ -58,7 +60,7 @@ class Sequence:
     def __init__(self, steps=()):
         self.steps, self.lines, self.answers = [], [], []
         self.state, self.stacks, self.counts = [0] * STATE_NUMBERS, [], []
-        self.history = None  # the references taken since an opening, all handed on; None where something is foreign
+        self.history = None  # the references and flushes since an opening, all handed on; None where something is foreign
         for step in steps:
             self.add(*step)
 
@@ -86,6 +88,14 @@ class Sequence:
             agree(answer not in (4, 7), "4 and 7 never come after an opening")
             self.history += [] if answer else [address]
         return answer, self.tables()
+
+    def flush(self):
+        answer, state, self.stacks = library.flush(state_of(self.state), self.stacks)
+        self.state = numbers_of(state)
+        if self.history is not None:
+            agree(answer == 0, "a flush after an opening is done")
+            self.history.append(simulator.FLUSH)
+        return answer, [("state", self.state), ("stacks", self.stacks)]
 
     def misses(self, b, s, w, misses):
         answer, state, missed, counts = library.misses(state_of(self.state), self.counts, b, s, w)
@@ -137,16 +147,22 @@ def fixed_sequences():
     filled = opened((4, 4, 1, 2, 5, 100)) + takes(16 * n for n in range(5))
     yield "room 5 exactly filled, then a new block and an old one", filled + takes([80, 0])
     yield "refs reached", opened((4, 4, 1, 2, 5, 3)) + takes([0, 0, 16, 0, 99])
+    yield "a flush between references", opened(order) + takes(WORKED) + [FLUSH] + takes(WORKED) + grid
+    yield "flushes first, twice and last", opened(order) + [FLUSH, FLUSH] + takes(WORKED) + [FLUSH] + grid
+    yield "room 5 exactly filled, then a flush, and filled again", filled + [FLUSH] + takes(16 * n for n in range(9, 15))
+    yield "refs reached, then a flush", opened((4, 4, 1, 2, 5, 3)) + takes([0, 0, 16]) + [FLUSH] + takes([0])
     yield "the last address", opened((2, 2, 14, 1, 1, 9)) + takes([0xFFFFFFFF] * 2) + [("misses", 2, 14, 1, [9])]
     largest = (12, 12, 0, 1, 1048576, 4000000000)
-    yield "the largest room", opened(largest) + takes([0, 4096, 0])
+    yield "the largest room", opened(largest) + takes([0, 4096, 0]) + [FLUSH] + takes([4096])
     yield "the largest grid", opened((5, 12, 14, 16, 3, 9)) + takes(WORKED) + [("misses", 12, 14, 16, [9])]
     yield "strips of the worked trace", [("strip", 4, s, WORKED, [7] * 17, [8] * 9, [9]) for s in range(5)]
     yield "strips with too short slices", strips_with_short_slices()
     yield "openings, refused for several reasons", openings_refused_in_order()
     yield "takings, refused for several reasons", takings_refused_in_order()
+    yield "flushes, refused for several reasons", flushes_refused_in_order()
+    yield "a flush leaves what is not a used entry of the order", flushes_of_foreign_tables()
     yield "questions, refused for several reasons", questions_refused_in_order()
-    yield "calls before an opening", [("take", 0), ("misses", 4, 0, 1, [9]), ("ratios", 4, 0, 1, [1, 2])]
+    yield "calls before an opening", [("take", 0), FLUSH, ("misses", 4, 0, 1, [9]), ("ratios", 4, 0, 1, [1, 2])]
 
 
 def opened(order):
@@ -187,6 +203,24 @@ def takings_refused_in_order():
         yield "take", 0
 
 
+def flushes_refused_in_order():
+    """Each reason holds or does not, in every way; used lengths and references taken are at their most, or one above."""
+    for holds in range(2**4):
+        reason = [holds >> number & 1 for number in range(4)]
+        state = [4, 5, 0, 17 if reason[0] else 1, 2, 3, 3 + reason[3], 2, 2 + reason[2], 0, 0, 0, 0, 0, 0]
+        yield "tables", state, [7] * (4 - reason[1]), []
+        yield FLUSH
+
+
+def flushes_of_foreign_tables():
+    """Every used length of two block sizes of room 3; entries beyond them, past the needs and other used lengths hold something."""
+    for first in range(4):
+        for second in range(4):
+            yield "tables", [4, 5, 0, 1, 3, 9, 7, first, second, 4, 2**32 - 1, 9, 1, 0, 3], list(range(11, 19)), [5, 6]
+            yield FLUSH
+            yield "take", 16
+
+
 def questions_refused_in_order():
     for holds in range(2**6):
         reason = [holds >> number & 1 for number in range(6)]
@@ -209,7 +243,7 @@ def random_sequence(seed, number):
 
 
 def handed_on(rng, sequence):
-    """An opening, and references and questions after it, with the state handed on each time."""
+    """An opening, and references, flushes and questions after it, with the state handed on each time."""
     order = random_order(rng)
     lend(rng, sequence, order, [telling(rng) for _ in range(STATE_NUMBERS)])
     asked = list(order)
@@ -241,6 +275,9 @@ def foreign(rng, sequence):
     order = random_order(rng)
     taken = rng.choice([0, 1, 2, 5, 5, order[5], order[5] - 1, order[5] + 1])
     used = [rng.choice([0, order[4], order[4], order[4] - 1, rng.randint(0, order[4])]) for _ in range(8)]
+    if rng.random() < 0.3:
+        sizes = order[1] - order[0] + 1
+        used[sizes:] = [telling(rng) for _ in used[sizes:]]  # of block sizes that the order lacks
     lend(rng, sequence, order, [*order, taken, *used])
     if rng.random() < 0.3:
         tables = [list(sequence.state), list(sequence.stacks), list(sequence.counts)]
@@ -286,13 +323,18 @@ def lend(rng, sequence, order, state):
 
 
 def go_on(rng, sequence, order, references):
-    """References and questions; sometimes the questions of the grid, in order, at the end."""
+    """References, flushes and questions; sometimes the questions of the grid, in order, at the end."""
+    flushes = rng.choice([0, 0, 0.05, 0.2, 0.6])
     for _ in range(references):
+        while rng.random() < flushes:
+            sequence.add(*FLUSH)
         sequence.add("take", address(rng, sequence.pool, order[0]))
         refused = sequence.answers[-1][1]
         if rng.random() < 0.3:
             ask(rng, sequence, order)
-        if refused and rng.random() < 0.3:
+        if refused in (5, 6) and rng.random() < 0.3:
+            sequence.add(*FLUSH)
+        elif refused and rng.random() < 0.3:
             break
     if rng.random() < 0.2:
         grid = itertools.product(range(order[0], order[1] + 1), range(order[2] + 1), range(1, order[3] + 1))

@@ -3,6 +3,7 @@
  *   tables STATE STACKS COUNTS                the slices that the calls after it are lent; prints nothing
  *   open BMIN BMAX SMAX WAYS ROOM REFS
  *   take ADDRESS
+ *   flush
  *   misses B S W MISSES
  *   ratios B S W RATIOS                       entries are the bits of a double, as a number
  *   strip B S LIST FILTER OUT KEPT
@@ -197,6 +198,13 @@ static void call_take(void)
     print_slice(" counts", &counts);
 }
 
+static void call_flush(void)
+{
+    print_answer(kkaeduron_flush(entries(&state), entries(&stacks), stacks.length));
+    print_slice(" state", &state);
+    print_slice(" stacks", &stacks);
+}
+
 static void call_question(int is_ratios)
 {
     uint32_t b = next_narrow(), s = next_narrow(), w = next_narrow();
@@ -251,6 +259,8 @@ int main(void)
             call_open();
         else if (!strcmp(word, "take"))
             call_take();
+        else if (!strcmp(word, "flush"))
+            call_flush();
         else if (!strcmp(word, "misses") || !strcmp(word, "ratios"))
             call_question(word[0] == 'r');
         else if (!strcmp(word, "strip"))

@@ -63,6 +63,20 @@ def take(state, stack, counts, address):
     return 0, state._replace(taken=state.taken + 1, used=tuple(used)), stack, counts
 
 
+def flush(state, stack):
+    """Empties every stack of the order. Returns answer, state, stack."""
+    answer = refused_order(state) or refused_stack(state, stack) or refused_state(state)
+    stack = list(stack)
+    if answer:
+        return answer, state, stack
+    used = list(state.used)
+    for place in range(len(block_sizes(state))):
+        start = place * state.room
+        stack[start : start + used[place]] = [0] * used[place]
+        used[place] = 0
+    return 0, state._replace(used=tuple(used)), stack
+
+
 def misses(state, counts, b, s, w):
     """The misses of (b, s, w). Returns answer, state, misses, counts."""
     answer = (

@@ -6,7 +6,7 @@ There are no stacks here and no counts by depth.
 
     simulator.py sweep <INPUT             what the sweep program must print for these bytes
     simulator.py strip B S <ADDRESSES     the hex addresses that stripping keeps, one per line
-    simulator.py misses B S W <ADDRESSES  the misses of one cache
+    simulator.py misses B S W <ADDRESSES  the misses of one cache; the word `flush` among them empties it
 """
 import collections
 import io
@@ -19,6 +19,8 @@ MOST_LINES = 4294967295
 
 ORDER_NAMES = [b"bmin", b"bmax", b"smax", b"ways", b"room", b"refs"]
 COUNTED_LABELS = {b"all": b"0123", b"fetch": b"2", b"data": b"01"}
+FLUSH_LABEL = b"4"
+FLUSH = "flush"  # stands among the addresses where every cache is emptied
 
 NUMBER = rb"(0|[1-9][0-9]{0,9})"
 KINDS_LINE = re.compile(rb"kinds=(all|fetch|data)")
@@ -45,15 +47,24 @@ class Cache:
         del blocks[self.ways :]
         return miss
 
+    def flush(self):
+        """Empties every set."""
+        self.sets.clear()
 
-def misses(addresses, b, s, w):
-    """How many references miss in the cache (b, s, w), empty at the start."""
-    cache = Cache(b, s, w)
-    return sum(cache.reference(address) for address in addresses)
+
+def misses(given, b, s, w):
+    """How many references miss in the cache (b, s, w), empty at the start. `given` are addresses and flushes."""
+    cache, missed = Cache(b, s, w), 0
+    for one in given:
+        if one == FLUSH:
+            cache.flush()
+        else:
+            missed += cache.reference(one)
+    return missed
 
 
 def strip(addresses, b, s):
-    """The references that miss in the direct-mapped cache of 2^s sets, in order."""
+    """The references that miss in the direct-mapped cache of 2^s sets, in order. A strip knows no flush."""
     cache = Cache(b, s, 1)
     return [address for address in addresses if cache.reference(address)]
 
@@ -129,28 +140,34 @@ def within_limits(bmin, bmax, smax, ways, room, refs):
 
 
 def read_trace(lines, order, counted_labels):
-    """The addresses of the references taken, and how many lines were skipped."""
-    addresses, skipped = [], 0
-    blocks_seen = {b: set() for b in range(order["bmin"], order["bmax"] + 1)}
+    """The addresses of the references taken, with the flushes among them, and how many lines were skipped."""
+    given, taken, skipped = [], 0, 0
+    blocks_seen = {b: set() for b in range(order["bmin"], order["bmax"] + 1)}  # since the last flush
     while True:
         line = lines.next(too_long=11)
         if line is None:
-            return addresses, skipped
+            return given, skipped
         found = TRACE_LINE.fullmatch(line)
         if not found:
             raise Refused(11, lines.number)
         label, address = found.group(1), int(found.group(2), 16)
+        if label == FLUSH_LABEL:
+            given.append(FLUSH)
+            for seen in blocks_seen.values():
+                seen.clear()
+            continue
         if label not in counted_labels:
             skipped += 1
             continue
-        if len(addresses) == order["refs"]:
+        if taken == order["refs"]:
             raise Refused(5, lines.number)
         for b, seen in blocks_seen.items():
             if address // 2**b not in seen and len(seen) == order["room"]:
                 raise Refused(6, lines.number)
         for b, seen in blocks_seen.items():
             seen.add(address // 2**b)
-        addresses.append(address)
+        given.append(address)
+        taken += 1
 
 
 def sweep(data):
@@ -158,14 +175,15 @@ def sweep(data):
     lines = Lines(io.BytesIO(data))
     try:
         order, counted_labels = read_order(lines)
-        addresses, skipped = read_trace(lines, order, counted_labels)
+        given, skipped = read_trace(lines, order, counted_labels)
     except Refused as refusal:
         return b"refused=%d line=%d\n" % refusal.args
-    table = [b"edition=1\n", b"refs=%d\n" % len(addresses), b"skipped=%d\n" % skipped]
+    flushes = given.count(FLUSH)
+    table = [b"edition=2\n", b"refs=%d\n" % (len(given) - flushes), b"skipped=%d\n" % skipped, b"flushes=%d\n" % flushes]
     for b in range(order["bmin"], order["bmax"] + 1):
         for s in range(order["smax"] + 1):
             for w in range(1, order["ways"] + 1):
-                table.append(b"b=%d s=%d w=%d misses=%d\n" % (b, s, w, misses(addresses, b, s, w)))
+                table.append(b"b=%d s=%d w=%d misses=%d\n" % (b, s, w, misses(given, b, s, w)))
     return b"".join(table)
 
 
@@ -175,12 +193,12 @@ def main(job="", *numbers):
     if job == "sweep":
         sys.stdout.buffer.write(sweep(sys.stdin.buffer.read()))
         return
-    addresses = [int(word, 16) for word in sys.stdin.read().split()]
+    given = [word if word == FLUSH else int(word, 16) for word in sys.stdin.read().split()]
     if job == "strip":
-        for address in strip(addresses, *map(int, numbers)):
+        for address in strip(given, *map(int, numbers)):
             print("%x" % address)
     else:
-        print(misses(addresses, *map(int, numbers)))
+        print(misses(given, *map(int, numbers)))
 
 
 if __name__ == "__main__":

@@ -7,6 +7,7 @@ import unittest
 
 import library_model as library
 import simulator
+from simulator import FLUSH
 
 ROOT = pathlib.Path(__file__).resolve().parent.parent
 SCOPE = (ROOT / "docs/SCOPE.md").read_text()
@@ -18,13 +19,27 @@ GRID = {  # misses of w = 1, 2, 3, 4, by (b, s)
 }  # fmt: skip
 
 
-def opened(order, addresses):
-    """State, stack and counts after an opening and these references, none of them refused."""
+def opened(order, given):
+    """State, stack and counts after an opening and these references and flushes, none of them refused."""
     answer, state, stack, counts = library.open_(order, [9] * 70, [9] * 70)
-    for address in addresses:
+    for one in given:
         assert answer == 0
-        answer, state, stack, counts = library.take(state, stack, counts, address)
+        if one == FLUSH:
+            answer, state, stack = library.flush(state, stack)
+        else:
+            answer, state, stack, counts = library.take(state, stack, counts, one)
     return answer, state, stack, counts
+
+
+def runs_of(given):
+    """The runs of references between the flushes."""
+    runs = [[]]
+    for one in given:
+        if one == FLUSH:
+            runs.append([])
+        else:
+            runs[-1].append(one)
+    return runs
 
 
 class Printed(unittest.TestCase):
@@ -71,6 +86,17 @@ class WorkedTrace(unittest.TestCase):
         self.assertEqual(simulator.strip(WORKED, 4, 0), WORKED)
         self.assertEqual(library.strip(WORKED, 4, 2, [7] * 5, [8] * 6), (0, 5, [1, 2, 3, 0, 7], kept + [8]))
 
+    def test_flush(self):
+        """Flushed between, the trace twice misses twice as often as once: 5 and 5 in (4, 1, 2), and 7 in all without the flush."""
+        self.assertEqual(simulator.misses(WORKED + WORKED, 4, 1, 2), 7)
+        _, state, stack, counts = opened(ORDER, WORKED + [FLUSH] + WORKED)
+        self.assertEqual((state.taken, state.used), (16, (4, 3) + (0,) * 6))
+        self.assertEqual(stack[:16], [2, 0, 4, 1, 0, 0, 0, 0, 1, 0, 2, 0, 0, 0, 0, 0])
+        for (b, s), row in GRID.items():
+            for w, missed in enumerate(row, 1):
+                self.assertEqual(simulator.misses(WORKED + [FLUSH] + WORKED, b, s, w), 2 * missed)
+                self.assertEqual(library.misses(state, counts, b, s, w)[:3], (0, state, 2 * missed))
+
     def test_two_way_set(self):
         self.assertEqual(simulator.misses([0, 4, 0, 8, 0], 2, 0, 2), 3)
         self.assertEqual(simulator.misses([0, 4, 8, 0], 2, 0, 2), 4)
@@ -108,6 +134,33 @@ class Refusals(unittest.TestCase):
             self.assertEqual(got[0], answer)
             if answer:
                 self.assertEqual(got[1:], (foreign, *tables))
+
+    def test_flushing(self):
+        """Refusals in their order; then what is left: two block sizes of room 3, two and one entry used, junk elsewhere."""
+        state = library.State(4, 5, 0, 1, 3, 9, 9, (2, 1, 8, 9, 0, 4, 5, 6))
+        stack = [11, 12, 13, 14, 15, 16, 17]
+        for foreign, table, answer in [
+            (state._replace(ways=17, taken=10), [], 1),
+            (state._replace(taken=10), stack[:5], 2),
+            (state._replace(taken=10), stack, 4),
+            (state._replace(used=(2, 4) + (0,) * 6), stack, 4),
+            (state._replace(used=(4, 1) + (0,) * 6), stack[:6], 4),
+        ]:
+            self.assertEqual(library.flush(foreign, table), (answer, foreign, table))
+        emptied = state._replace(used=(0, 0, 8, 9, 0, 4, 5, 6))
+        self.assertEqual(library.flush(state, stack), (0, emptied, [0, 0, 13, 0, 15, 16, 17]))
+        self.assertEqual(library.flush(emptied, stack), (0, emptied, stack))
+        full = state._replace(used=(3, 3) + (0,) * 6)
+        self.assertEqual(library.flush(full, stack), (0, full._replace(used=(0,) * 8), [0] * 6 + [17]))
+
+    def test_room_and_refs_after_a_flush(self):
+        _, state, stack, counts = opened((4, 4, 0, 2, 2, 4), [0, 16, FLUSH, 32, 48])
+        self.assertEqual(library.take(state, stack, counts, 0)[0], 5)
+        self.assertEqual(library.take(state._replace(refs=5), stack, counts, 0)[0], 6)
+        self.assertEqual(library.take(state._replace(refs=5), stack, counts, 32)[0], 0)
+        answer, state, stack = library.flush(state, stack)
+        self.assertEqual((answer, state.taken, stack[:2]), (0, 4, [0, 0]))
+        self.assertEqual(library.take(state, stack, counts, 0)[0], 5)
 
     def test_full_stack_of_a_larger_block_size(self):
         state = library.State(4, 5, 0, 1, 2, 9, 2, (1, 2) + (0,) * 6)
@@ -159,18 +212,29 @@ class Agreement(unittest.TestCase):
 
     def test_random_lists(self):
         rng = random.Random(1)
-        for _ in range(200):
+        for number in range(200):
             bmin, smax, ways = rng.randint(2, 11), rng.randint(0, 3), rng.randint(1, 4)
-            addresses = [rng.randrange(12) << rng.randint(2, 12) for _ in range(30)]
-            _, state, _, counts = opened((bmin, bmin + 1, smax, ways, 30, 30), addresses)
+            flushes = number % 3 / 10
+            given = [FLUSH if rng.random() < flushes else rng.randrange(12) << rng.randint(2, 12) for _ in range(30)]
+            _, state, _, counts = opened((bmin, bmin + 1, smax, ways, 30, 30), given)
             for s in range(smax + 1):
                 for b in (bmin, bmin + 1):
                     for w in range(1, ways + 1):
-                        self.assertEqual(
-                            library.misses(state, counts, b, s, w)[2], simulator.misses(addresses, b, s, w)
-                        )
-                kept = simulator.strip(addresses, bmin, s)
-                self.assertEqual(library.strip(addresses, bmin, s, [1] * 8, [0] * len(kept))[3], kept)
+                        missed = simulator.misses(given, b, s, w)
+                        self.assertEqual(library.misses(state, counts, b, s, w)[2], missed)
+                        self.assertEqual(sum(simulator.misses(run, b, s, w) for run in runs_of(given)), missed)
+                self.expect_stripped(given, bmin, s, ways)
+
+    def expect_stripped(self, given, b, s, ways):
+        """Each run between flushes by a strip of its own: joined again, the caches of at least as many sets miss as often."""
+        kept = []
+        for run in runs_of(given):
+            left = simulator.strip(run, b, s)
+            self.assertEqual(library.strip(run, b, s, [1] * 8, [0] * len(left))[3], left)
+            kept += left + [FLUSH]
+        for w in range(1, ways + 1):
+            self.assertEqual(simulator.misses(kept, b, s, w), simulator.misses(given, b, s, w))
+            self.assertEqual(simulator.misses(kept, b, s + 1, w), simulator.misses(given, b, s + 1, w))
 
 
 if __name__ == "__main__":

@@ -14,7 +14,7 @@ SVG = "{http://www.w3.org/2000/svg}"
 WORKED = (ROOT / "tests/vectors/worked/worked_input.out").read_text()
 GRID = (ROOT / "tests/vectors/worked/worked_grid.out").read_text()
 WORDS = """\
-8 references taken, 0 lines skipped.
+8 references taken, 0 lines skipped, 0 flushes.
 4 caches asked for: blocks of 16 bytes, 1 to 2 sets, 1 to 2 ways.
 Fewest misses: blocks of 16 bytes, 64 bytes (2 sets of 2 ways, 5 misses, ratio 0.625000).
 The size that matters is 64 bytes: below, no block size has done nine tenths of its fall; there, each has a cache within 1% \
@@ -39,7 +39,7 @@ def picture(table, *options):
 def grid_of(misses, refs=100, b=4):
     """A table of one block size: misses[s][w - 1]."""
     rows = ["b=%d s=%d w=%d misses=%d\n" % (b, s, w, m) for s, row in enumerate(misses) for w, m in enumerate(row, 1)]
-    return "edition=1\nrefs=%d\nskipped=0\n" % refs + "".join(rows)
+    return "edition=2\nrefs=%d\nskipped=0\nflushes=0\n" % refs + "".join(rows)
 
 
 class Edge(unittest.TestCase):
@@ -114,7 +114,7 @@ class Words(unittest.TestCase):
         self.assertEqual(picture(WORKED, "--words").stdout, WORDS)
 
     def test_within_one_percent(self):
-        table = "edition=1\nrefs=2000\nskipped=0\n" + "".join(
+        table = "edition=2\nrefs=2000\nskipped=0\nflushes=0\n" + "".join(
             "b=4 s=%d w=1 misses=%d\n" % (s, misses) for s, misses in enumerate([1102, 1011, 1010, 1000])
         )
         self.assertIn("within 1% of the fewest misses asked for: 64 bytes (4 sets of 1 way, 1,010", picture(table, "--words").stdout)
@@ -132,7 +132,7 @@ class Words(unittest.TestCase):
         self.assertEqual(len(told), 24)
         self.assertIn("  128 bytes (2 sets of 4 ways, 4 misses, ratio 0.500000)", told)
         self.assertIn("  64 bytes (1 set of 2 ways, 4 misses, ratio 0.500000)", told)
-        for line in GRID.splitlines()[3:]:
+        for line in GRID.splitlines()[4:]:
             b, s, w, misses = (int(word.split("=")[1]) for word in line.split())
             start = "  {:,} bytes ({} set".format(2 ** (b + s) * w, 2**s)
             self.assertTrue(any(one.startswith(start) and " of %d way" % w in one and " %d miss" % misses in one for one in told), line)
@@ -141,7 +141,7 @@ class Words(unittest.TestCase):
     def test_summary(self):
         """By hand: at blocks of 16 bytes the fall is from 90 to 10, so 18 is the bend and 10 is within 1%; at 32 from 80 to 20."""
         rows = [(4, 0, 90), (4, 1, 50), (4, 2, 18), (4, 3, 10), (4, 4, 10), (5, 0, 80), (5, 1, 30), (5, 2, 20), (5, 3, 20), (5, 4, 20)]
-        table = "edition=1\nrefs=100\nskipped=0\n" + "".join(
+        table = "edition=2\nrefs=100\nskipped=0\nflushes=0\n" + "".join(
             "b=%d s=%d w=%d misses=%d\n" % (b, s, w, misses) for b, s, misses in rows for w in (1, 2)
         )
         words = picture(table, "--words").stdout
@@ -167,8 +167,24 @@ class Words(unittest.TestCase):
             self.assertEqual((answer.returncode, answer.stdout), (1, ""))
             self.assertIn(why, answer.stderr)
 
+    def test_flushes(self):
+        """How many there were is told in the first sentence, and stands above the picture."""
+        for name, said in [
+            ("flush_last_line", "3 references taken, 0 lines skipped, 1 flush."),
+            ("flushes_and_skipped_lines", "2 references taken, 3 lines skipped, 2 flushes."),
+        ]:
+            table = (ROOT / "tests/vectors/flush" / (name + ".out")).read_text()
+            self.assertTrue(picture(table, "--words").stdout.startswith(said + "\n"))
+            texts = [one.text for one in ElementTree.fromstring(picture(table).stdout).iter(SVG + "text")]
+            self.assertIn(said, texts)
+
+    def test_edition_1(self):
+        """A table that was kept from edition 1 gives the same words, but for the flushes, which it skipped."""
+        said = WORDS.replace(", 0 flushes.", " (edition 1, which skips flush lines).")
+        self.assertEqual(picture(WORKED.replace("edition=2", "edition=1").replace("flushes=0\n", ""), "--words").stdout, said)
+
     def test_no_references(self):
-        table = "edition=1\nrefs=0\nskipped=1\nb=4 s=0 w=1 misses=0\n"
+        table = "edition=2\nrefs=0\nskipped=1\nflushes=1\nb=4 s=0 w=1 misses=0\n"
         self.assertIn("nothing to compare", picture(table, "--words").stdout)
         self.assertEqual(picture(table).returncode, 1)
 
@@ -222,17 +238,21 @@ class Damaged(unittest.TestCase):
             ("", "line 1"),
             ("\n", "line 1"),
             (WORKED[:-1], "may be cut off"),
-            (WORKED.replace("edition=1", "edition=2"), "only edition 1"),
+            (WORKED.replace("edition=2", "edition=3"), "only editions 1 and 2"),
+            (WORKED.replace("edition=2", "edition=1"), "line 4 is no line of a table"),
+            (WORKED.replace("flushes=0\n", ""), "line 4 is not flushes= and a number"),
+            (WORKED.replace("flushes=0", "flushes=00"), "line 4"),
             (WORKED.replace("refs=8", "refs=x"), "line 2"),
             (WORKED.replace("refs=8", "refs=08"), "line 2"),
             ("".join(lines[:2]), "line 3"),
-            ("".join(lines[:3]), "no cache"),
+            ("".join(lines[:3]), "line 4"),
+            ("".join(lines[:4]), "no cache"),
             ("".join(lines[:-1]), "whole grid"),
-            ("".join(lines[:4] + lines[5:]), "whole grid"),
+            ("".join(lines[:5] + lines[6:]), "whole grid"),
             ("".join(lines + lines[-1:]), "whole grid"),
-            ("".join(lines[:3] + lines[:2:-1]), "whole grid"),
-            (WORKED.replace("misses=7", "misses=9"), "line 6: more misses than references"),
-            (WORKED.replace("misses=7", "misses=-7"), "line 6 is no line of a table"),
+            ("".join(lines[:4] + lines[:3:-1]), "whole grid"),
+            (WORKED.replace("misses=7", "misses=9"), "line 7: more misses than references"),
+            (WORKED.replace("misses=7", "misses=-7"), "line 7 is no line of a table"),
             (WORKED.replace("\n", "\r\n"), "line 1"),
             (WORKED.replace("w=2", "w=17"), "no order has this cache"),
             (WORKED + "\n", "is no line of a table"),

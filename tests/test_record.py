@@ -23,6 +23,11 @@ LOG = OPENING + TRACE + CLOSING.format(2)
 DIN = "2 401ae40\n0 ff000520\n2 401ae44\n1 0\n0 4a6fdc0\n1 4a6fdc0\n"
 
 
+def flushed(lines, every):
+    """Lines of references, with a line that flushes after every so many."""
+    return "".join(line + "4 0\n" * (number % every == 0) for number, line in enumerate(lines, 1))
+
+
 def convert(log, *options):
     return subprocess.run([ROOT / "scripts/lackey_to_din.py", *options], input=log, capture_output=True, text=True)
 
@@ -45,10 +50,21 @@ class Converted(unittest.TestCase):
                 self.assertEqual(ended.stdout, "".join(lines[skip : skip + count]))
                 self.assertEqual(ended.returncode, 0 if ended.stdout else 1)
             self.assertEqual(convert(LOG, "--skip", str(skip)).stdout, "".join(lines[skip:]))
-        for wrong in (("--skip", "-1"), ("--count", "0")):
+        for wrong in (("--skip", "-1"), ("--count", "0"), ("--flush-every", "0"), ("--flush-every", "-1"), ("--flush-every", "x")):
             self.assertEqual(convert(LOG, *wrong).returncode, 2)
         self.assertEqual(convert(OPENING + TRACE, "--count", "6").returncode, 0)
         self.assertEqual(convert(OPENING + TRACE, "--count", "7").returncode, 1)
+
+    def test_flushes(self):
+        """A flush after every so many references written, whatever their kind; it is no reference itself."""
+        lines = DIN.splitlines(True)
+        self.assertEqual(convert(LOG, "--flush-every", "4").stdout, "".join(lines[:4]) + "4 0\n" + "".join(lines[4:]))
+        for every in range(1, 8):
+            ended = convert(LOG, "--flush-every", str(every))
+            self.assertEqual((ended.returncode, ended.stdout), (0, flushed(lines, every)))
+            self.assertIn("6 references written", ended.stderr)
+            ended = convert(LOG, "--skip", "1", "--count", "4", "--flush-every", str(every))
+            self.assertEqual((ended.returncode, ended.stdout), (0, flushed(lines[1:5], every)))
 
     def test_not_whole(self):
         for log, said in [
@@ -88,6 +104,8 @@ class Converted(unittest.TestCase):
         self.assertIn("\n2,000,000 references\n", "\n" + ended.stderr)
         self.assertEqual(ended.stderr.count(",000,000 references"), 2)
         self.assertLess(spent, 5 * times / 10**6 + 1)
+        ended = convert(OPENING + TRACE * times + CLOSING.format(2 * times), "--flush-every", "700001")
+        self.assertTrue(ended.stdout == flushed((DIN * times).splitlines(True), 700001))
 
 
 class Recorded(unittest.TestCase):
@@ -118,6 +136,7 @@ class Recorded(unittest.TestCase):
         self.assertEqual((ended.returncode, ended.stdout), (0, DIN))
         self.assertRegex(ended.stderr, "called: --tool=lackey --trace-mem=yes .*true one --skip two\n")
         self.assertEqual(self.record("--skip", "1", "--count", "2", "true").stdout, "".join(DIN.splitlines(True)[1:3]))
+        self.assertEqual(self.record("--skip", "1", "--flush-every", "2", "true").stdout, flushed(DIN.splitlines(True)[1:], 2))
 
     def test_not_whole(self):
         self.stub(OPENING + TRACE)
@@ -142,7 +161,8 @@ class Recorded(unittest.TestCase):
     def test_help_and_wrong_use(self):
         self.assertEqual(self.record("--help").returncode, 0)
         self.assertEqual(self.record().returncode, 2)
-        self.assertEqual(self.record("--count", "0", "true").returncode, 2)
+        for wrong in (("--count", "0"), ("--flush-every", "0")):
+            self.assertEqual(self.record(*wrong, "true").returncode, 2)
 
     @unittest.skipUnless(shutil.which("valgrind"), "valgrind is not installed")
     def test_valgrind(self):
@@ -211,6 +231,13 @@ class ByQemu(unittest.TestCase):
         self.assertIn("20 references written", ended.stderr)
         ended = self.record("--skip", "3", "--count", "5", str(program))
         self.assertEqual((ended.returncode, [(line[0], int(line[2:], 16)) for line in ended.stdout.splitlines()]), (0, wanted[3:8]))
+        lines = ["%s %x\n" % reference for reference in wanted]
+        for every in (1, 4, 20, 21):
+            ended = self.record("--flush-every", str(every), str(program))
+            self.assertEqual((ended.returncode, ended.stdout), (0, flushed(lines, every)))
+            self.assertIn("20 references written", ended.stderr)
+        ended = self.record("--skip", "3", "--count", "6", "--flush-every", "2", str(program))
+        self.assertEqual((ended.returncode, ended.stdout), (0, flushed(lines[3:9], 2)))
 
     @unittest.skipUnless(shutil.which(OWN) and shutil.which("gcc"), "%s or gcc is not installed" % OWN)
     def test_this_machine(self):

@@ -80,12 +80,34 @@ class Size(unittest.TestCase):
         said = self.expect_order("16..16 up to 1M 2 ways", order(4, 4, 14, 2, 4))
         self.assertIn("16,384 sets are the most, so blocks of 16 bytes end at 262,144 bytes at 1 way, 524,288 at 2", said)
 
+    def test_flushes(self):
+        """By hand: blocks of 32 bytes, 3 before the flush and 2 after; where the line is malformed, all 4 stay together."""
+        for flush, all_kinds, fetch in [("4 0", 3, 2), ("4\tffffffff  c", 3, 2), ("4 0x0", 4, 3), ("4", 4, 3), ("40 0", 4, 3)]:
+            data = ("2 0\n2 20\n0 40\n2 20\n%s\n2 60\n2 0\n" % flush).encode()
+            self.expect_order("32..32 up to 32", order(5, 5, 0, 4, all_kinds), data)
+            self.expect_order("32..32 up to 32 fetch", order(5, 5, 0, 4, fetch, "fetch"), data)
+            self.expect_order("32..32 up to 32", order(5, 5, 0, 4, all_kinds), data[:-1])
+        self.expect_order("32..32 up to 32", order(5, 5, 0, 4, 1), b"4 0\n4 0\n")
+
+    def test_flushes_counted(self):
+        """Random runs of references: room is the most different blocks in one of them. The table is whole, so no stack was full."""
+        for seed in range(4):
+            chance = random.Random(seed)
+            sizes = [chance.choice([0, 1, 40, 300]) for _ in range(30)]
+            runs = [[(chance.choice("0123"), chance.getrandbits(chance.choice([8, 14]))) for _ in range(size)] for size in sizes]
+            data = "4 0\n".join("".join("%s %x\n" % ref for ref in run) for run in runs).encode()
+            for kinds, labels in [("all", "0123"), ("fetch", "2"), ("data", "01")]:
+                need = max(len({address >> 5 for label, address in run if label in labels}) for run in runs)
+                self.expect_order("32..64 up to 1K " + kinds, order(5, 6, 5, 4, need, kinds), data)
+                ended = self.size("32..64", "up", "to", "64", kinds, data=data)
+                self.assertEqual((ended.returncode, ended.stdout.splitlines()[3]), (0, b"flushes=29"))
+
     def test_counts(self):
-        """Random traces with comments, tabs, capitals and escapes: room is the number of different blocks of the smallest size."""
+        """Random traces with comments, tabs and capitals: room is the number of different blocks of the smallest size."""
         for seed in range(4):
             chance = random.Random(seed)
             refs = [(chance.choice("0123"), chance.getrandbits(chance.choice([8, 12, 32]))) for _ in range(1500)]
-            lines = [chance.choice(["%s %x", "%s\t%X c", "%s  %08x \x00 %%"]) % ref for ref in refs] + ["4 1234567"]
+            lines = [chance.choice(["%s %x", "%s\t%X c", "%s  %08x \x00 %%"]) % ref for ref in refs]
             chance.shuffle(lines)
             data = "\n".join(lines).encode() + b"\n" * (seed % 2)
             for kinds, labels in [("all", "0123"), ("fetch", "2"), ("data", "01")]:

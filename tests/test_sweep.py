@@ -96,7 +96,8 @@ class Sweep(unittest.TestCase):
             (b" L 1fff000520,8", "lackey_to_din.py"),
             (b"==7== Exit code: 0", "lackey_to_din.py"),
             (b"# a comment", "no comment lines"),
-            (b"r 40", "a label is a digit"),
+            (b"r 40", "a label is a digit: 0 read, 1 write, 2 fetch, 3 unknown, 4 a flush"),
+            (b"4", "the address is missing"),
             (b"7 40", "one digit, 0 to 4"),
             (b"2", "the address is missing"),
             (b"2,40", "spaces or tabs"),
@@ -120,8 +121,8 @@ class Sweep(unittest.TestCase):
             ("exec >&-", "the program printed nothing"),
             ("kill -KILL $$", "ended with status -9, by a signal"),
             ("exit 4", "ended with status 4"),
-            ("printf 'edition=1\\nrefs=8\\n'", "no whole table was printed"),
-            ("printf 'edition=1\\nrefs=8\\nskipped=0\\nb=4 s=0 w=2 misses=8\\n'", "no whole table was printed"),
+            ("printf 'edition=2\\nrefs=8\\n'", "no whole table was printed"),
+            ("printf 'edition=2\\nrefs=8\\nskipped=0\\nflushes=0\\nb=4 s=0 w=2 misses=8\\n'", "no whole table was printed"),
         ]:
             self.stub("cat >/dev/null\n" + ending)
             self.expect_no_answer(self.sweep(WORKED), said)

@@ -41,9 +41,21 @@ class Tables(unittest.TestCase):
         ended = table(GRID, "--json")
         self.assertEqual((ended.returncode, ended.stderr), (0, ""))
         made = json.loads(ended.stdout)
-        self.assertEqual((made["edition"], made["refs"], made["skipped"]), (1, 8, 0))
+        self.assertEqual((made["edition"], made["refs"], made["skipped"], made["flushes"]), (2, 8, 0, 0))
         self.assertEqual([list(cache) for cache in made["caches"]], [NAMES] * 24)
         self.assertEqual([list(cache.values()) for cache in made["caches"]], WANTED)
+
+    def test_flushes(self):
+        made = json.loads(table((ROOT / "tests/vectors/flush/flushes_and_skipped_lines.out").read_text(), "--json").stdout)
+        self.assertEqual((made["refs"], made["skipped"], made["flushes"]), (2, 3, 2))
+
+    def test_edition_1(self):
+        """A table that was kept from edition 1: the same caches, and null for the flushes, which it skipped."""
+        old = GRID.replace("edition=2", "edition=1").replace("flushes=0\n", "")
+        made = json.loads(table(old, "--json").stdout)
+        self.assertEqual((made["edition"], made["refs"], made["skipped"], made["flushes"]), (1, 8, 0, None))
+        self.assertEqual(made["caches"], json.loads(table(GRID, "--json").stdout)["caches"])
+        self.assertEqual(table(old, "--csv").stdout, table(GRID, "--csv").stdout)
 
     def test_a_full_disk(self):
         with open("/dev/full", "w") as full:
@@ -58,7 +70,7 @@ class Tables(unittest.TestCase):
         self.assertEqual(table("", "--csv", "nowhere").returncode, 1)
 
     def test_no_references(self):
-        none = "edition=1\nrefs=0\nskipped=1\nb=4 s=0 w=1 misses=0\n"
+        none = "edition=2\nrefs=0\nskipped=1\nflushes=1\nb=4 s=0 w=1 misses=0\n"
         self.assertEqual(table(none, "--csv").stdout.splitlines()[1], "4,0,1,16,1,16,0.015625,0,")
         self.assertIsNone(json.loads(table(none, "--json").stdout)["caches"][0]["miss_ratio"])
 
