@@ -1,10 +1,11 @@
 /* The sweep program's job in plain C, to compare its speed with. The algorithm of docs/SCOPE.md as written: one stack for each block
-   size, most recent first; a walk that leaves at the block it seeks; the depth at each s by the trailing zeros of the xor.
+   size, most recent first; a walk that leaves at the block it seeks; the depth at each s by the trailing zeros of the xor; a flush
+   that zeroes what was used.
    It prints the same table, or the refusals 1, 2, 5, 6, 10 and 11. It has no refusal 26, and nothing here is proved.
 
      gcc -O2 -o plain bench/plain.c
      ./plain <input                 the table
-     ./plain --read-only <input     reads and parses every line, takes none: the first three lines of the table */
+     ./plain --read-only <input     reads and parses every line, takes none: the first four lines of the table */
 #include <stdint.h>
 #include <stdio.h>
 #include <stdlib.h>
@@ -13,13 +14,14 @@
 
 enum { CHUNK = 65536, LINE = 255, MOST_SIZES = 8, MOST_S = 14, MOST_WAYS = 16, MOST_ENTRIES = 8192 };
 enum { ALL = 1 << 0 | 1 << 1 | 1 << 2 | 1 << 3, FETCH = 1 << 2, DATA = 1 << 0 | 1 << 1 }; /* a bit for each label */
+enum { FLUSH_LABEL = 4 };
 
 static uint64_t bmin, bmax, smax, ways, room, refs; /* the order */
 static unsigned kinds = ALL;
 
 static uint32_t stacks[MOST_ENTRIES], used[MOST_SIZES];
 static uint32_t counts[MOST_SIZES * (MOST_S + 1) * MOST_WAYS];
-static uint64_t taken, skipped, line_number;
+static uint64_t taken, skipped, flushes, line_number;
 
 static void refuse(int number)
 {
@@ -165,9 +167,20 @@ static void touch(unsigned size, uint32_t block)
     stack[0] = block;
 }
 
+/* Every stack becomes empty; its room is zero and free again. */
+static void flush(void)
+{
+    for (unsigned size = 0; size <= bmax - bmin; size++) {
+        memset(stacks + size * room, 0, used[size] * sizeof *stacks);
+        used[size] = 0;
+    }
+    flushes++;
+}
+
 static void print_table(int read_only)
 {
-    printf("edition=1\nrefs=%llu\nskipped=%llu\n", (unsigned long long)taken, (unsigned long long)skipped);
+    printf("edition=2\nrefs=%llu\nskipped=%llu\nflushes=%llu\n", (unsigned long long)taken, (unsigned long long)skipped,
+           (unsigned long long)flushes);
     const uint32_t *count = counts;
     for (unsigned b = bmin; b <= bmax && !read_only; b++)
         for (unsigned s = 0; s <= smax; s++) {
@@ -185,7 +198,12 @@ int main(int argc, char **argv)
     uint32_t address;
     read_order();
     while ((length = next_line(11)) >= 0) {
-        if (!(kinds >> parse(length, &address) & 1)) {
+        unsigned label = parse(length, &address);
+        if (label == FLUSH_LABEL) {
+            flush();
+            continue;
+        }
+        if (!(kinds >> label & 1)) {
             skipped++;
             continue;
         }
