@@ -2,12 +2,13 @@
 """Turns a memory trace of valgrind's lackey tool into din lines.
 
     valgrind --tool=lackey --trace-mem=yes --log-file=LOG PROGRAM ARGS..
-    scripts/lackey_to_din.py [--skip N] [--count N] [LOG] >trace.din       `-`, or no LOG, is standard input
+    scripts/lackey_to_din.py [--skip N] [--count N] [--flush-every N] [LOG] >trace.din       `-`, or no LOG, is standard input
 
 Lackey's I (instruction) becomes label 2, L (load) label 0, S (store) label 1, and M (modify) a load and then a store.
 Addresses are cut to their low 32 bits. Sizes are dropped: a reference stands for its first byte. `--skip` leaves out the
-first N references, and `--count` stops after N more. Other lines of the log are passed over. Standard error has a line for
-every million references, and says how many of each there were.
+first N references, and `--count` stops after N more. `--flush-every` writes a line that flushes, `4 0`, after every N references
+written. Other lines of the log are passed over. Standard error has a line for every million references, and says how many of each
+there were.
 
 The exit status is 0 only where the recording is whole: 1 where the log has no references, ends without its closing lines (the program
 was ended, or put another in its place), or has lines of another process (the program started one). `--count` asks for no closing lines.
@@ -20,6 +21,7 @@ import sys
 LACKEY_LINE = re.compile(rb"(I | L| S| M) ([0-9a-f]+),[0-9]+")
 LABELS = {b"I ": (2,), b" L": (0,), b" S": (1,), b" M": (0, 1)}
 TOLD_BY_VALGRIND = re.compile(rb"(?:==|--|\*\*)([0-9]+)(?:==|--|\*\*)(?:.*\bguest instrs: +([0-9,]+)|( Exit code:).*|.*)", re.DOTALL)
+FLUSH = b"4 0\n"
 CHUNK = 1 << 22
 MANY = 1 << 20  # different lines kept in mind
 MILLION = 1000000
@@ -79,10 +81,10 @@ class Converter(dict):
 
 
 class Window:
-    """Writes the references from `skip` on, `count` of them or all, and tells of every million."""
+    """Writes the references from `skip` on, `count` of them or all, with a flush after every so many, and tells of every million."""
 
-    def __init__(self, skip, count):
-        self.skip, self.left = skip, count
+    def __init__(self, skip, count, flush_every):
+        self.skip, self.left, self.flush_every = skip, count, flush_every
         self.written = 0
 
     def write(self, text):
@@ -93,11 +95,18 @@ class Window:
             self.skip = max(0, self.skip - len(lines))
             self.left = None if self.left is None else self.left - len(wanted)
             text = b"".join(wanted)
-        sys.stdout.buffer.write(text)
+        sys.stdout.buffer.write(self.with_flushes(text) if self.flush_every else text)
         before, self.written = self.written, self.written + text.count(b"\n")
         for million in range(before // MILLION + 1, self.written // MILLION + 1):
             say("{:,} references".format(million * MILLION))
         return self.left != 0
+
+    def with_flushes(self, text):
+        lines, every, made = text.splitlines(True), self.flush_every, []
+        for start in range(-(self.written % every), len(lines), every):
+            made += lines[max(start, 0) : start + every]
+            made += [FLUSH] * (start + every <= len(lines))
+        return b"".join(made)
 
 
 def say(text):
@@ -109,10 +118,11 @@ def main():
     parser.add_argument("log", nargs="?", default="-", metavar="LOG", help="the log; - is standard input")
     parser.add_argument("--skip", type=int, default=0, metavar="N", help="leave out the first N references")
     parser.add_argument("--count", type=int, metavar="N", help="stop after N references")
+    parser.add_argument("--flush-every", type=int, metavar="N", help="flush after every N references")
     chosen = parser.parse_args()
-    if chosen.skip < 0 or chosen.count is not None and chosen.count < 1:
-        parser.error("--skip is at least 0, and --count at least 1")
-    converter, window = Converter(), Window(chosen.skip, chosen.count)
+    if chosen.skip < 0 or any(number is not None and number < 1 for number in (chosen.count, chosen.flush_every)):
+        parser.error("--skip is at least 0, and --count and --flush-every at least 1")
+    converter, window = Converter(), Window(chosen.skip, chosen.count, chosen.flush_every)
     try:
         log = sys.stdin.buffer if chosen.log == "-" else open(chosen.log, "rb")
         chunk, more = b"-", True

@@ -3,11 +3,12 @@
    scripts/record builds and uses it:
 
      gcc -O2 -shared -fPIC -pthread -o qemu_din.so scripts/qemu_din.c
-     qemu-arm -plugin ./qemu_din.so,out=1,told=2,skip=0,count=0 PROGRAM
+     qemu-arm -plugin ./qemu_din.so,out=1,told=2,skip=0,count=0,flush=0 PROGRAM
 
    `out` and `told` are open files. To `told` go lines: `begin I`, the process; `end N` once it has ended, N references written; `exec I`
    where process I of the emulator starts another program, and `back I` where that failed; `fork I` where a child, process I, ran by itself. A
-   child's references are not written. With `count` the run ends after so many. */
+   child's references are not written. With `count` the run ends after so many; with `flush` a line that flushes, `4 0`, comes after every
+   so many. */
 #define _GNU_SOURCE
 #include <fcntl.h>
 #include <pthread.h>
@@ -48,7 +49,7 @@ static size_t used;
 static int out, told;
 static pid_t owner;
 static bool silent;
-static uint64_t skip, count, written;
+static uint64_t skip, count, flush_every, written;
 static int64_t exec_number = -1, exec_at_number = -1;
 
 static void tell(const char *word, uint64_t number)
@@ -56,7 +57,7 @@ static void tell(const char *word, uint64_t number)
     dprintf(told, "%s %llu\n", word, (unsigned long long)number);
 }
 
-static void flush(void)
+static void write_out(void)
 {
     size_t done = 0;
     if (getpid() != owner) {
@@ -89,7 +90,7 @@ static void take(char label, uint32_t address)
     int shift = 28;
     pthread_mutex_lock(&lock);
     if (used > sizeof buffer - 16)
-        flush();
+        write_out();
     if (silent || skip) {
         skip -= !silent;
         pthread_mutex_unlock(&lock);
@@ -102,10 +103,15 @@ static void take(char label, uint32_t address)
     for (; shift >= 0; shift -= 4)
         buffer[used++] = digits[address >> shift & 15];
     buffer[used++] = '\n';
-    if (++written % MILLION == 0 && getpid() == owner)
+    written++;
+    if (flush_every && written % flush_every == 0) {
+        memcpy(buffer + used, "4 0\n", 4);
+        used += 4;
+    }
+    if (written % MILLION == 0 && getpid() == owner)
         tell_million(written / MILLION);
     if (written == count && getpid() == owner) {
-        flush();
+        write_out();
         tell("end", written);
         _exit(0);
     }
@@ -154,7 +160,7 @@ static void on_end(uint64_t id, void *data)
 {
     (void)id, (void)data;
     pthread_mutex_lock(&lock); /* for good: other threads that still run add nothing after the end */
-    flush();
+    write_out();
     if (!silent)
         tell("end", written);
 }
@@ -172,6 +178,8 @@ int qemu_plugin_install(uint64_t id, const struct about *info, int argc, char **
             skip = number;
         else if (sscanf(argv[place], "count=%llu", &number) == 1)
             count = number;
+        else if (sscanf(argv[place], "flush=%llu", &number) == 1)
+            flush_every = number;
     }
     for (size_t place = 0; place < sizeof systems / sizeof *systems; place++)
         if (strcmp(systems[place].target, info->target) == 0)
