@@ -1,5 +1,5 @@
 #!/usr/bin/env python3
-"""Turns a table printed by the sweep program (edition 1) into a picture, or into words.
+"""Turns a table printed by the sweep program (edition 2, or 1) into a picture, or into words.
 
     scripts/picture.py [--misses] [--log] [--ways LIST] [TABLE] >FILE.svg
                 a picture: miss ratio, or misses, against cache size

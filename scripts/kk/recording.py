@@ -13,6 +13,7 @@ from kk.program import NoAnswer
 TOOLS = {b"\x1f\x8b": "gzip", b"\xfd7zXZ\x00": "xz", b"\x28\xb5\x2f\xfd": "zstd", b"BZh": "bzip2"}
 CHUNK = 1 << 20
 MANY = 1 << 20  # different lines, after which they are read into numbers
+FLUSH_LINE = re.compile(rb"^4[ \t]+[0-9a-fA-F]{1,8}(?:[ \t][^\n]*)?$", re.MULTILINE)
 DIN_LINE = re.compile(rb"([0-3])[ \t]+([0-9a-fA-F]{1,8})(?:[ \t].*)?", re.DOTALL)
 LABELS = {"all": b"0123", "fetch": b"2", "data": b"01"}
 
@@ -112,30 +113,52 @@ class Progress:
 
 
 class Blocks:
-    """The distinct references of a recording. Lines that are no din are passed over: the program refuses them."""
+    """The most different blocks of a recording between two flushes. Lines that are no din are passed over: the program refuses them."""
 
     def __init__(self, chunks):
-        self.seen = {label: set() for label in b"0123"}  # addresses divided by 4, the smallest block
+        self.most = {kinds: dict.fromkeys(range(2, 13), 0) for kinds in LABELS}
+        self.seen = {label: set() for label in b"0123"}  # addresses divided by 4, the smallest block; since the last flush
         lines, rest = set(), b""
         for chunk in chunks:
             whole, end, after = chunk.rpartition(b"\n")
-            lines.update((rest + whole).split(b"\n") if end else [])
-            rest = after if end else rest + chunk
+            if not end:
+                rest += chunk
+                continue
+            run, *later = split_at_flushes(rest + whole)
+            lines.update(run.split(b"\n"))
+            for run in later:
+                self.read(lines)
+                self.flush()
+                lines = set(run.split(b"\n"))
+            rest = after
             if len(lines) > MANY:
                 self.read(lines)
                 lines = set()
         lines.add(rest)
         self.read(lines)
+        self.flush()
 
     def read(self, lines):
         for found in filter(None, map(DIN_LINE.fullmatch, lines)):
             self.seen[found.group(1)[0]].add(int(found.group(2), 16) >> 2)
 
+    def flush(self):
+        """Notes where there were more different blocks than between any two flushes before, and begins again."""
+        for kinds, most in self.most.items():
+            blocks = set().union(*(self.seen[label] for label in LABELS[kinds]))
+            for b in most:
+                if len(blocks) <= most[12]:  # every size has had as many
+                    break
+                most[b] = max(most[b], len(blocks))
+                blocks = {block >> 1 for block in blocks}
+        for blocks in self.seen.values():
+            blocks.clear()
+
     def needs(self, kinds):
-        """How many different blocks there are, for each b from 2 to 12: the room that block size needs."""
-        blocks = set().union(*(self.seen[label] for label in LABELS[kinds]))
-        counts = {}
-        for b in range(2, 13):
-            counts[b] = len(blocks)
-            blocks = {block >> 1 for block in blocks}
-        return counts
+        """The room that each block size needs, for each b from 2 to 12."""
+        return self.most[kinds]
+
+
+def split_at_flushes(lines):
+    """The runs of lines between those that flush."""
+    return FLUSH_LINE.split(lines) if b"\n4" in lines or lines.startswith(b"4") else [lines]

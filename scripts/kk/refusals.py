@@ -108,7 +108,7 @@ def in_trace(line):
         (rb"[0-4]", "the address is missing; perhaps the trace was cut here"),
         (rb"[0-4][ \t]+", "the address is missing; perhaps the trace was cut here"),
         (rb"[#;/].*", "din has no comment lines; a comment stands after an address"),
-        (rb"[a-zA-Z].*", "a label is a digit: 0 read, 1 write, 2 fetch, 3 unknown, 4 an escape"),
+        (rb"[a-zA-Z].*", "a label is a digit: 0 read, 1 write, 2 fetch, 3 unknown, 4 a flush"),
         (rb"[0-9]+[ \t].*", "a label is one digit, 0 to 4, and the address is hex"),
         (rb"[0-4].*", "between label and address stand spaces or tabs, after the address a blank or nothing"),
         (rb"\xef\xbb\xbf.*", "a byte order mark stands in the trace"),

@@ -10,6 +10,7 @@ LEFT, RIGHT, TOP, BOTTOM = 78, 104, 66, 58
 PANEL_WIDTH, PANEL_HEIGHT = LEFT + PLOT_WIDTH + RIGHT, TOP + PLOT_HEIGHT + BOTTOM
 HEADING = 64
 LABEL_STEP = 15
+LETTER = 8  # at most, in the plain text size
 COLOURS = ["#0072b2", "#d55e00", "#007a59", "#b0508a", "#000000", "#8a6d00", "#3d8fc6", "#767676"]
 DASHES = ["none", "8 3", "2 3", "9 3 2 3"]
 MARKERS = [  # corners, in a square from -1 to 1; the circle has none
@@ -33,8 +34,9 @@ def picture(table, show_misses=False, log_scale=False, ways=None):
     """The picture, as the text of an SVG file. Lines are drawn for these ways, or for those of `ways_drawn`."""
     ways = ways or ways_drawn(table)
     heading = "%s of LRU caches against their size" % ("Misses" if show_misses else "Miss ratio")
+    caption = words.summary(table)[0] + lines_left_out(table, ways)
     columns = min(2, len(table.block_sizes))
-    width = max(columns * PANEL_WIDTH, 560)
+    width = max(columns * PANEL_WIDTH, 32 + LETTER * len(caption))
     height = HEADING + math.ceil(len(table.block_sizes) / columns) * PANEL_HEIGHT
     scales = Scales(table, show_misses, log_scale)
     parts = [
@@ -44,7 +46,7 @@ def picture(table, show_misses=False, log_scale=False, ways=None):
         '<desc id="desc">%s</desc>' % escape("\n".join(words.summary(table))),
         '<rect width="100%" height="100%" fill="white"/>',
         text(16, 28, heading, size=19, weight="bold"),
-        text(16, 50, words.summary(table)[0] + lines_left_out(table, ways)),
+        text(16, 50, caption),
     ]
     for place, b in enumerate(table.block_sizes):
         row, column = divmod(place, columns)

@@ -1,10 +1,13 @@
-"""A table as the sweep program prints it (SCOPE P18): read whole or refused, and what its grid says at its edge."""
+"""A table as the sweep program prints it (SCOPE P18): read whole or refused, and what its grid says at its edge.
+
+Tables of edition 1, as people keep them, are read too. That edition skipped the lines that flush, and has no `flushes=` line."""
 import itertools
 import pathlib
 import re
 import sys
 
 NUMBER = "(0|[1-9][0-9]{0,9})"
+HEAD_LINES = {1: 3, 2: 4}  # by edition
 GRID_LINE = re.compile("b=%s s=%s w=%s misses=%s" % ((NUMBER,) * 4))
 S_MOST, WAYS_MOST = 14, 16  # the limits of smax and ways (SCOPE O3, O4)
 
@@ -14,7 +17,7 @@ class Malformed(Exception):
 
 
 class Table:
-    """The counts of a printed table. `misses` maps (b, s, w) to a count."""
+    """The counts of a printed table. `misses` maps (b, s, w) to a count; `flushes` is None in edition 1."""
 
     def __init__(self, text):
         lines = text.split("\n")
@@ -22,12 +25,15 @@ class Table:
             raise Malformed("there is no table: the program printed %s" % lines[0])
         if lines.pop() != "":
             raise Malformed("the last line lacks its line end: the table may be cut off")
-        if head_number(lines, 1, "edition") != 1:
-            raise Malformed("line 1: only edition 1 can be read")
+        self.edition = head_number(lines, 1, "edition")
+        if self.edition not in HEAD_LINES:
+            raise Malformed("line 1: only editions 1 and 2 can be read")
+        head = HEAD_LINES[self.edition]
         self.refs = head_number(lines, 2, "refs")
         self.skipped = head_number(lines, 3, "skipped")
+        self.flushes = head_number(lines, 4, "flushes") if self.edition > 1 else None
         self.misses = {}
-        for number, line in enumerate(lines[3:], 4):
+        for number, line in enumerate(lines[head:], head + 1):
             found = GRID_LINE.fullmatch(line)
             if not found:
                 raise Malformed("line %d is no line of a table: %r" % (number, line))
@@ -44,7 +50,7 @@ class Table:
         self.set_exponents = range(last[1] + 1)
         self.ways = range(1, last[2] + 1)
         whole_grid = list(itertools.product(self.block_sizes, self.set_exponents, self.ways))
-        if list(self.misses) != whole_grid or len(lines) != 3 + len(whole_grid):
+        if list(self.misses) != whole_grid or len(lines) != head + len(whole_grid):
             raise Malformed("the lines are not the whole grid, b, then s, then w upward")
 
     @classmethod

@@ -6,7 +6,8 @@ PLACES = {("smax", "ways"): "the largest cache asked for", ("smax",): "the most 
 
 def summary(table):
     """What matters, as a list of lines."""
-    lines = ["%s taken, %s skipped." % (several(table.refs, "reference"), several(table.skipped, "line"))]
+    flushes = " (edition 1, which skips flush lines)" if table.flushes is None else ", " + several(table.flushes, "flush", "es")
+    lines = ["%s taken, %s skipped%s." % (several(table.refs, "reference"), several(table.skipped, "line"), flushes)]
     lines.append("%s asked for: %s." % (several(len(table.misses), "cache"), grid(table)))
     if table.refs == 0:
         return lines + ["With no references there is nothing to compare."]
