@@ -1,6 +1,8 @@
--- The refusal numbers, each defined once (SCOPE, "Refusal numbers", whose sentences stand beside them).
+-- The refusal numbers, each defined once (SCOPE, "Refusal numbers", whose sentences stand beside them); 11 is no longer given.
 -- Assumes nothing.
 use Prim.Native.Nat.{ℕ}
+use mathlib.Core.Bool.{Bool, _&&_}
+use lib.Dec.{leb}
 
 -- done
 abbrev pub done : ℕ
@@ -46,10 +48,6 @@ noReferences = 9
 abbrev pub badOrderLine : ℕ
 badOrderLine = 10
 
--- a trace line is malformed
-abbrev pub badTraceLine : ℕ
-badTraceLine = 11
-
 -- filter table shorter than 2^s entries
 abbrev pub shortFilter : ℕ
 shortFilter = 12
@@ -58,6 +56,26 @@ shortFilter = 12
 abbrev pub shortOutput : ℕ
 shortOutput = 13
 
+-- a trace line is malformed in its label
+abbrev pub badLabel : ℕ
+badLabel = 14
+
+-- in the gap after the label
+abbrev pub badGap : ℕ
+badGap = 15
+
+-- in its address, or in the byte right after it
+abbrev pub badAddress : ℕ
+badAddress = 16
+
+-- a trace line is too long
+abbrev pub tooLong : ℕ
+tooLong = 17
+
 -- the program's input has more than 4,294,967,295 lines
 abbrev pub tooManyLines : ℕ
 tooManyLines = 26
+
+-- 14 to 17, which a trace line is refused with: they alone are told with a column
+abbrev pub hasColumn : ℕ → Bool
+hasColumn n = leb badLabel n && leb n tooLong

@@ -1,4 +1,6 @@
-// The refusal numbers (SCOPE, "Refusal numbers"), each named once.
+// The refusal numbers (SCOPE, "Refusal numbers"), each named once; 11 is no longer given.
+ghost use mathlib.Core.Path.{_≡_};
+ghost use Rattle.units.specs.Refusals.{hasColumn};
 
 // Done.
 pub const DONE: u32 = 0;
@@ -33,14 +35,36 @@ pub const NO_REFERENCES: u32 = 9;
 // An order line is malformed, out of place or missing.
 pub const BAD_ORDER_LINE: u32 = 10;
 
-// A trace line is malformed.
-pub const BAD_TRACE_LINE: u32 = 11;
-
 // The filter table is shorter than 2^s entries.
 pub const SHORT_FILTER: u32 = 12;
 
 // The output is shorter than the references kept.
 pub const SHORT_OUTPUT: u32 = 13;
 
+// A trace line is malformed in its label.
+pub const BAD_LABEL: u32 = 14;
+
+// In the gap after the label.
+pub const BAD_GAP: u32 = 15;
+
+// In its address, or in the byte right after it.
+pub const BAD_ADDRESS: u32 = 16;
+
+// A trace line is too long.
+pub const TOO_LONG: u32 = 17;
+
 // The program's input has more than 4,294,967,295 lines.
 pub const TOO_MANY_LINES: u32 = 26;
+
+// 14 to 17, which a trace line is refused with: they alone are told with a column.
+pub fn has_column(answer: u32) -> bool
+    ensures { λ r. ⌜ r ≡ hasColumn answer ⌝ }
+{
+    if answer < BAD_LABEL {
+        return false;
+    }
+    if answer > TOO_LONG {
+        return false;
+    }
+    true
+}
