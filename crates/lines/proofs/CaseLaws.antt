@@ -1,17 +1,20 @@
--- What holds in each case holds of what every line reads as: a refused order line has number 10, and a refused trace line 11.
+-- What holds in each case holds of what every line reads as: a refused order line has number 10, and a refused trace line 14, 15, 16 or 17.
 -- Assumes nothing.
-use Prim.Native.Nat.{ℕ, suc, _+_, _*_}
+use Prim.Native.Nat.{ℕ, suc, _+_, _*_, _<_}
 use Prim.Native.Char.{code}
+use mathlib.Core.Path.{_≡_, subst}
 use mathlib.Core.Bool.{_&&_}
 use mathlib.Core.List.{List, [], _∷_}
+use native.Mathlib.Omega.{arith}
 use lib.Dec.{eqb, ltb}
 use lib.ListN.{length}
 use Rattle.lists.proofs.Cases.{picked}
 use Rattle.units.specs.declared.Addr.{Addr}
-use Rattle.units.specs.Refusals.{badOrderLine, badTraceLine}
-use Rattle.lines.specs.Bytes.{between, isBlank, isHex, hexValue, longest}
-use Rattle.lines.specs.TraceLine.{labelled, atLabel, atGap, inGap, inAddress, traceLineOf}
+use Rattle.units.specs.Refusals.{badOrderLine, badLabel, badGap, badAddress, tooLong}
+use Rattle.lines.specs.Bytes.{between, isBlank, isHex, hexValue, longest, pastLongest}
+use Rattle.lines.specs.TraceLine.{badAt, labelled, atLabel, atGap, inGap, inAddress, traceLineOf}
 use Rattle.lines.specs.OrderLine.{valueOf, after, isNumbered, isWhole, numberLines, wholeLines, numbered, whole, orderLineOf}
+use Rattle.lines.specs.declared.BadLine.{BadLine}
 use Rattle.lines.specs.declared.Kind.{Kind}
 use Rattle.lines.specs.declared.Kind.the-variants.{Read, Write, Fetch, Unknown}
 use Rattle.lines.specs.declared.OrderLine.{OrderLine}
@@ -52,8 +55,8 @@ module _ (P : OrderLine → Type 0) where
 
 -- ---- a trace line
 
-module _ (P : TraceLine → Type 0) (ref : (kind : Kind) (a : Addr) → P (Ref kind a)) (escape : P Escape) (bad : P (BadTrace badTraceLine)) where
-  labelled-cases : (label address : ℕ) → P (labelled label address)
+module _ (P : TraceLine → Type 0) (ref : (kind : Kind) (a : Addr) → P (Ref kind a)) (escape : P Escape) where
+  pub labelled-cases : (label address : ℕ) → P (labelled label address)
   labelled-cases label address =
       picked P (eqb label (code "0"))
       (λ e. ref Read (record { 0 = address }))
@@ -63,32 +66,47 @@ module _ (P : TraceLine → Type 0) (ref : (kind : Kind) (a : Addr) → P (Ref k
       (λ e. ref Fetch (record { 0 = address }))
       (λ e. picked P (eqb label (code "3")) (λ e. ref Unknown (record { 0 = address })) (λ e. escape))))
 
-  address-cases : (label n address : ℕ) (rest : List ℕ) → P (inAddress label n address rest)
-  unfolding inAddress
-  address-cases label n address [] = labelled-cases label address
-  address-cases label n address (c ∷ rest) =
-      picked P (isBlank c)
-      (λ e. labelled-cases label address)
-      (λ e. picked P (isHex c && ltb n 8) (λ f. address-cases label (suc n) (address * 16 + hexValue c) rest) (λ f. bad))
+  -- a wrong label is at column 1, a wrong gap at 2, and an address is wrong from column 3 on
+  module _ (label-bad : P (badAt badLabel 1)) (gap-bad : P (badAt badGap 2)) (address-bad : (k : ℕ) → 2 < k → P (badAt badAddress k)) where
+    address-cases : (label n address k : ℕ) → 2 < k → (rest : List ℕ) → P (inAddress label n address k rest)
+    unfolding inAddress
+    address-cases label n address k h [] = labelled-cases label address
+    address-cases label n address k h (c ∷ rest) =
+        picked P (isBlank c)
+        (λ e. labelled-cases label address)
+        (λ e. picked P (isHex c && ltb n 8)
+        (λ f. address-cases label (suc n) (address * 16 + hexValue c) (k + 1) (omega arith) rest)
+        (λ f. address-bad k h))
 
-  gap-cases : (label : ℕ) (rest : List ℕ) → P (inGap label rest)
-  unfolding inGap
-  gap-cases label [] = bad
-  gap-cases label (c ∷ rest) =
-      picked P (isBlank c)
-      (λ e. gap-cases label rest)
-      (λ e. picked P (isHex c) (λ f. address-cases label 1 (hexValue c) rest) (λ f. bad))
+    gap-cases : (label k : ℕ) → 2 < k → (rest : List ℕ) → P (inGap label k rest)
+    unfolding inGap
+    gap-cases label k h [] = address-bad k h
+    gap-cases label k h (c ∷ rest) =
+        picked P (isBlank c)
+        (λ e. gap-cases label (k + 1) (omega arith) rest)
+        (λ e. picked P (isHex c) (λ f. address-cases label 1 (hexValue c) (k + 1) (omega arith) rest) (λ f. address-bad k h))
 
-  at-gap-cases : (label : ℕ) (rest : List ℕ) → P (atGap label rest)
-  unfolding atGap
-  at-gap-cases label [] = bad
-  at-gap-cases label (c ∷ rest) = picked P (isBlank c) (λ e. gap-cases label rest) (λ e. bad)
+    at-gap-cases : (label : ℕ) (rest : List ℕ) → P (atGap label rest)
+    unfolding atGap
+    at-gap-cases label [] = gap-bad
+    at-gap-cases label (c ∷ rest) = picked P (isBlank c) (λ e. gap-cases label 3 (omega arith) rest) (λ e. gap-bad)
 
-  label-cases : (line : List ℕ) → P (atLabel line)
-  unfolding atLabel
-  label-cases [] = bad
-  label-cases (c ∷ rest) = picked P (between "0" "4" c) (λ e. at-gap-cases c rest) (λ e. bad)
+    pub label-cases : (line : List ℕ) → P (atLabel line)
+    unfolding atLabel
+    label-cases [] = label-bad
+    label-cases (c ∷ rest) = picked P (between "0" "4" c) (λ e. at-gap-cases c rest) (λ e. label-bad)
 
-  pub trace-cases : (line : List ℕ) → P (traceLineOf line)
-  unfolding traceLineOf
-  trace-cases line = picked P (ltb longest (length line)) (λ e. bad) (λ e. label-cases line)
+    pub trace-cases : P (badAt tooLong pastLongest) → (line : List ℕ) → P (traceLineOf line)
+    unfolding traceLineOf
+    trace-cases long line = picked P (ltb longest (length line)) (λ e. long) (λ e. label-cases line)
+
+-- so the number of a line that is refused is not 0
+abbrev NotDone : TraceLine → Type 0
+NotDone (Ref kind a) = Unit {0}
+NotDone Escape = Unit {0}
+NotDone (BadTrace bad) = bad .number ≡ 0 → ⊥
+
+pub bad-not-done : (line : List ℕ) (bad : BadLine) → traceLineOf line ≡ BadTrace bad → bad .number ≡ 0 → ⊥
+bad-not-done line bad e =
+    subst NotDone e
+    (trace-cases NotDone (λ kind a. tt) tt (λ z. omega arith) (λ z. omega arith) (λ k h z. omega arith) (λ z. omega arith) line)

@@ -4,12 +4,12 @@ use mathlib.Core.Path.{_≡_, refl}
 use mathlib.Core.List.{List, [], _∷_, _++_, map}
 use lib.ListN.{replicate}
 use Rattle.lines.specs.Bytes.{text}
-use Rattle.lines.specs.TraceLine.{inAddress, inGap, atGap, atLabel, traceLineOf}
+use Rattle.lines.specs.TraceLine.{badAt, inAddress, inGap, atGap, atLabel, traceLineOf}
 use Rattle.lines.specs.OrderLine.{startsWith, allDecimal, isNumber, decimal, numbered, whole, orderLineOf}
 use Rattle.lines.specs.declared.Kind.the-variants.{Read, Write, Fetch, Unknown}
 use Rattle.lines.specs.declared.Kinds.the-variants.{Data}
 use Rattle.lines.specs.declared.TraceLine.{TraceLine}
-use Rattle.lines.specs.declared.TraceLine.the-variants.{Ref, Escape, Refused}
+use Rattle.lines.specs.declared.TraceLine.the-variants.{Ref, Escape}
 use Rattle.lines.specs.declared.OrderLine.{OrderLine}
 use Rattle.lines.specs.declared.OrderLine.the-variants.{Bmin, Refs, Kinds as Counting, Begin, Refused as RefusedOrder}
 
@@ -28,20 +28,22 @@ traceTable =
     ∷ (text "2 10 a comment\r", Ref Fetch (record { 0 = 16 }))
     ∷ (text "2 0 " ++ comment 251, Ref Fetch (record { 0 = 0 }))
     ∷ (text "4 0", Escape)
-    ∷ (text "2 0 " ++ comment 252, Refused 11)
-    ∷ (text "2 123456789", Refused 11)
-    ∷ (text "2 000000010", Refused 11)
-    ∷ (text "2 0x10", Refused 11)
-    ∷ (text "5 0", Refused 11)
-    ∷ (text "22 0", Refused 11)
-    ∷ (text "", Refused 11)
-    ∷ (text " 2 0", Refused 11)
-    ∷ (text "2", Refused 11)
-    ∷ (text "2 ", Refused 11)
-    ∷ (text "2 10\r", Refused 11)
-    ∷ (text "2 10\0", Refused 11)
-    ∷ (text "4", Refused 11)
-    ∷ (text "begin=din", Refused 11)
+    ∷ (text "2 0 " ++ comment 252, badAt 17 256)
+    ∷ (comment 256, badAt 17 256)
+    ∷ (text "", badAt 14 1)
+    ∷ (text " 2 0", badAt 14 1)
+    ∷ (text "5 0", badAt 14 1)
+    ∷ (text "begin=din", badAt 14 1)
+    ∷ (text "4", badAt 15 2)
+    ∷ (text "22 0", badAt 15 2)
+    ∷ (text "2 ", badAt 16 3)
+    ∷ (text "2 \t x", badAt 16 5)
+    ∷ (text "2 0x10", badAt 16 4)
+    ∷ (text "2 10\r", badAt 16 5)
+    ∷ (text "2 10\0", badAt 16 5)
+    ∷ (text "2 123456789", badAt 16 11)
+    ∷ (text "2 000000010", badAt 16 11)
+    ∷ (text "2" ++ replicate 254 32, badAt 16 256)
     ∷ []
 
 pub trace-examples : map (λ e. traceLineOf (e .0)) traceTable ≡ map (λ e. e .1) traceTable

@@ -1,6 +1,8 @@
 pub mod ByteLaws
 pub mod CaseLaws
+pub mod ColumnLaws
 pub mod Examples
 pub mod OrderLaws
 pub mod SaidLaws
+pub mod StageLaws
 pub mod TraceLaws

@@ -5,6 +5,7 @@ use mathlib.Core.Bool.{cond}
 use mathlib.Core.List.{List, [], _∷_}
 use lib.Dec.{eqb}
 use lib.ListN.{length, getD}
+use Rattle.lines.specs.TraceLine.{badAt}
 use Rattle.lines.specs.Said.{Said, traceSaid, orderSaid}
 use Rattle.lines.specs.declared.Kind.{Kind}
 use Rattle.lines.specs.declared.Kind.the-variants.{Read, Write, Fetch, Unknown}
@@ -20,25 +21,25 @@ use Rattle.lines.specs.declared.OrderLine.the-variants.{Bmin, Bmax, Smax
 kindOf : ℕ → Kind
 kindOf label = cond (eqb label 0) Read (cond (eqb label 1) Write (cond (eqb label 2) Fetch Unknown))
 
-traceBy : ℕ → List ℕ → TraceLine
-traceBy n [] = BadTrace n
-traceBy n (label ∷ []) = Escape
-traceBy n (label ∷ a ∷ more) = Ref (kindOf label) (record { 0 = a })
+traceBy : ℕ → ℕ → List ℕ → TraceLine
+traceBy n column [] = badAt n column
+traceBy n column (label ∷ []) = Escape
+traceBy n column (label ∷ a ∷ more) = Ref (kindOf label) (record { 0 = a })
 
-trace-told : (t : TraceLine) → traceBy (traceSaid t .number) (traceSaid t .values) ≡ t
+trace-told : (t : TraceLine) → (let s = traceSaid t in traceBy (s .number) (s .column) (s .values)) ≡ t
 unfolding traceBy kindOf
 trace-told (Ref Read a) = refl
 trace-told (Ref Write a) = refl
 trace-told (Ref Fetch a) = refl
 trace-told (Ref Unknown a) = refl
 trace-told Escape = refl
-trace-told (BadTrace n) = refl
+trace-told (BadTrace bad) = refl
 
 pub trace-says : {t u : TraceLine} → t ≡ u → traceSaid u ≡ traceSaid t
 trace-says e = ap traceSaid (sym e)
 
 pub trace-said-unique : (t u : TraceLine) → traceSaid t ≡ traceSaid u → t ≡ u
-trace-said-unique t u e = sym (trace-told t) ∙ ap (λ (s : Said). traceBy (s .number) (s .values)) e ∙ trace-told u
+trace-said-unique t u e = sym (trace-told t) ∙ ap (λ (s : Said). traceBy (s .number) (s .column) (s .values)) e ∙ trace-told u
 
 -- ---- an order line
 

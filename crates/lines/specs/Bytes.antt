@@ -34,3 +34,7 @@ hexValue c = cond (isDecimal c) (c - code "0") (cond (between "a" "f" c) (c - co
 -- one line buffer serves both parts: no line is longer, its LF not counted
 abbrev pub longest : ℕ
 longest = 255
+
+-- the column of the first byte that it has no room for
+abbrev pub pastLongest : ℕ
+pastLongest = 256

@@ -1,4 +1,5 @@
 pub mod Bytes
+pub mod Column
 pub mod OrderLine
 pub mod Parts
 pub mod Said

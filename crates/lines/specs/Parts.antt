@@ -1,6 +1,6 @@
 -- What the private functions of the crate answer to the readers of lines. No public promise cites this page.
 -- Assumes nothing.
-use Prim.Native.Nat.{ℕ, suc, _-_, _≤_, _<_}
+use Prim.Native.Nat.{ℕ, suc, _+_, _-_, _≤_, _<_}
 use mathlib.Core.Path.{_≡_}
 use mathlib.Core.Bool.{false, cond, _&&_}
 use mathlib.Core.List.{List, [], _∷_}
@@ -25,7 +25,7 @@ hexOr16 c = cond (isHex c) (hexValue c) 16
 -- that may still come
 pub record HexDigits (line : List ℕ) (from value end : ℕ) : Type 0 where
   pub within : end ≤ length line
-  pub goes-on : (label : ℕ) → inAddress label 0 0 (drop from line) ≡ inAddress label (end - from) value (drop end line)
+  pub goes-on : (label : ℕ) → inAddress label 0 0 (from + 1) (drop from line) ≡ inAddress label (end - from) value (end + 1) (drop end line)
   pub ended : end < length line → isHex (getD line end 0) && ltb (end - from) 8 ≡ false
 
 -- the number that digits stand for

@@ -9,7 +9,8 @@ use hex::is_blank;
 use units::Addr;
 use units::refusal;
 ghost use mathlib.Core.Path.{_≡_};
-ghost use Rattle.lines.specs.TraceLine.{labelled, traceLineOf};
+ghost use Prim.Native.Nat.{_+_, _≤_};
+ghost use Rattle.lines.specs.TraceLine.{badAt, labelled, traceLineOf};
 ghost use Rattle.lines.specs.OrderLine.{orderLineOf, countsKind};
 ghost use Rattle.lines.specs.Said.{traceSaid, orderSaid};
 
@@ -24,13 +25,20 @@ pub enum Kind {
     Unknown,
 }
 
+// Why a line of the trace is refused, and where: at the first byte that cannot stand there, or one past the end.
+// Columns are bytes, counted from 1.
+pub struct BadLine {
+    // The refusal number.
+    pub number: u32,
+    pub column: u32,
+}
+
 // What a line of the trace reads as.
 pub enum TraceLine {
     Ref(Kind, Addr),
     // Label 4, an escape: well-formed, and no reference.
     Escape,
-    // The refusal number.
-    Refused(u32),
+    Refused(BadLine),
 }
 
 // What an order counts: labels 0 to 3, label 2, or labels 0 and 1.
@@ -57,6 +65,9 @@ pub enum OrderLine {
 // "One line buffer of 255 bytes": the longest line, its LF not counted.
 pub const LONGEST: usize = 255;
 
+// The column of the first byte that it has no room for.
+pub const PAST_LONGEST: u32 = 256;
+
 // A well-formed line with this label and address.
 fn labelled(label: u8, address: u32) -> TraceLine
     ensures { λ r. ⌜ r ≡ labelled label address ⌝ }
@@ -70,30 +81,39 @@ fn labelled(label: u8, address: u32) -> TraceLine
     }
 }
 
+// A line that is wrong at the byte of this place, counted from 0.
+fn bad_at(number: u32, place: usize) -> TraceLine
+    requires { ⌜ place ≤ 255 ⌝ }
+    ensures { λ r. ⌜ r ≡ badAt number (place + 1) ⌝ }
+{
+    let column = place as u32 + 1;
+    TraceLine::Refused(BadLine { number, column })
+}
+
 // Reads a line of the trace, in one pass: the label, the gap, the address, and what follows it.
 pub fn trace_line(line: &[u8]) -> TraceLine
     ensures { λ r. ⌜ traceSaid r ≡ traceSaid (traceLineOf (now (line .entry))) ⌝ }
 {
     let len = line.len();
     if len > LONGEST {
-        return TraceLine::Refused(refusal::BAD_TRACE_LINE);
+        return bad_at(refusal::TOO_LONG, LONGEST);
     }
     if len == 0 {
-        return TraceLine::Refused(refusal::BAD_TRACE_LINE);
+        return bad_at(refusal::BAD_LABEL, 0);
     }
     let label = line[0];
     if label < b'0' {
-        return TraceLine::Refused(refusal::BAD_TRACE_LINE);
+        return bad_at(refusal::BAD_LABEL, 0);
     }
     if label > b'4' {
-        return TraceLine::Refused(refusal::BAD_TRACE_LINE);
+        return bad_at(refusal::BAD_LABEL, 0);
     }
     let start = gap_end(line, 1);
     if start == 1 {
-        return TraceLine::Refused(refusal::BAD_TRACE_LINE);
+        return bad_at(refusal::BAD_GAP, 1);
     }
     if start == len {
-        return TraceLine::Refused(refusal::BAD_TRACE_LINE);
+        return bad_at(refusal::BAD_ADDRESS, len);
     }
     let address = hex_digits(line, start);
     let end = address.end;
@@ -104,7 +124,7 @@ pub fn trace_line(line: &[u8]) -> TraceLine
     if is_blank(line[end]) {
         return labelled(label, value);
     }
-    TraceLine::Refused(refusal::BAD_TRACE_LINE)
+    bad_at(refusal::BAD_ADDRESS, end)
 }
 
 // Reads a line of the order, wherever it stands in it.

@@ -1,6 +1,6 @@
 -- `trace_line` meets its contract: each stage that the code has passed takes the definition one stage on, and at each `return` the
 -- stage that is reached decides. Assumes nothing.
-use Prim.Native.Nat.{ℕ, _-_, _<_}
+use Prim.Native.Nat.{ℕ, _+_, _-_, _<_}
 use mathlib.Core.Path.{_≡_, sym, _∙_}
 use mathlib.Core.Bool.{true}
 use mathlib.Core.List.{List}
@@ -30,7 +30,7 @@ read c = bytes (c .before .before .before .before)
 goes-on : (c : tie.After-hex-digits) →
     let start = c .before .before .before .gap-end .result in
     let end = c .hex-digits .result .end in
-    traceLineOf (read c) ≡ inAddress (getD (read c) 0 0) (end - start) (c .hex-digits .result .value) (drop end (read c))
+    traceLineOf (read c) ≡ inAddress (getD (read c) 0 0) (end - start) (c .hex-digits .result .value) (end + 1) (drop end (read c))
 goes-on c =
     let right = label-is-right (c .before .before .before .before) in
     let at = c .before .before .before .gap-end .ensures in
@@ -43,28 +43,35 @@ before-end : (c : tie.Else7) → c .before .hex-digits .result .end < length (re
 before-end c = lt-of-le-ne (c .before .hex-digits .ensures .within) (c .if7 .left)
 
 returns : tie.Need-returns
-returns c = trace-says (too-long _ (c .if1 .taken))
+returns c = trace-says (too-long _ (c .before .if1 .taken) ∙ sym (c .bad-at .ensures))
 
 returns-2 : tie.Need-returns-2
-returns-2 c = trace-says (line-empty _ (c .before .if1 .left) (c .if2 .taken))
+returns-2 c = trace-says (line-empty _ (c .before .before .if1 .left) (c .before .if2 .taken) ∙ sym (c .bad-at2 .ensures))
 
 returns-3 : tie.Need-returns-3
-returns-3 c = trace-says (line-label-wrong _ (omega arith) (omega arith) (range-below 48 52 _ (c .if3 .taken)))
+returns-3 c =
+    trace-says (line-label-wrong _ (omega arith) (omega arith) (range-below 48 52 _ (c .before .if3 .taken)) ∙ sym (c .bad-at3 .ensures))
 
 returns-4 : tie.Need-returns-4
-returns-4 c = trace-says (line-label-wrong _ (omega arith) (omega arith) (range-above 48 52 _ (c .if4 .taken)))
+returns-4 c =
+    trace-says (line-label-wrong _ (omega arith) (omega arith) (range-above 48 52 _ (c .before .if4 .taken)) ∙ sym (c .bad-at4 .ensures))
 
 returns-5 : tie.Need-returns-5
 returns-5 c =
-    let right = label-is-right (c .before .before) in
-    trace-says (line-no-gap (bytes (c .before .before)) (omega arith) (omega arith) right _ (c .before .gap-end .ensures) (c .if5 .taken))
+    let gap = c .before .before in
+    let right = label-is-right (gap .before) in
+    trace-says
+    (line-no-gap (bytes (gap .before)) (omega arith) (omega arith) right _ (gap .gap-end .ensures) (c .before .if5 .taken)
+    ∙ sym (c .bad-at5 .ensures))
 
 returns-6 : tie.Need-returns-6
 returns-6 c =
-    let labelled = c .before .before .before in
-    let right = label-is-right labelled in
-    let at = c .before .before .gap-end .ensures in
-    trace-says (line-no-address (bytes labelled) (omega arith) (omega arith) right _ at (c .before .if5 .left) (c .if6 .taken))
+    let gap = c .before .before .before in
+    let right = label-is-right (gap .before) in
+    let at = gap .gap-end .ensures in
+    trace-says
+    (line-no-address (bytes (gap .before)) (omega arith) (omega arith) right _ at (c .before .before .if5 .left) (c .before .if6 .taken)
+    ∙ sym (c .bad-at6 .ensures))
 
 hex-digits-requires : tie.Need-hex-digits-requires
 hex-digits-requires c κs =
@@ -74,25 +81,30 @@ hex-digits-requires c κs =
 returns-7 : tie.Need-returns-7
 returns-7 c =
     let digits = c .before .before in
-    trace-says (goes-on digits ∙ address-end _ _ _ (read digits) _ (c .before .if7 .taken) ∙ sym (c .labelled .ensures))
+    trace-says (goes-on digits ∙ address-end _ _ _ _ (read digits) _ (c .before .if7 .taken) ∙ sym (c .labelled .ensures))
 
 returns-8 : tie.Need-returns-8
 returns-8 c =
     let rest = c .before .before .before .before in
     let blank = sym (c .before .before .is-blank .ensures) ∙ c .before .if8 .taken in
-    trace-says (goes-on (rest .before) ∙ address-blank _ _ _ (read (rest .before)) _ (before-end rest) blank ∙ sym (c .labelled2 .ensures))
+    trace-says (goes-on (rest .before) ∙ address-blank _ _ _ _ (read (rest .before)) _ (before-end rest) blank ∙ sym (c .labelled2 .ensures))
+
+bad-at-requires-7 : tie.Need-bad-at-requires-7
+bad-at-requires-7 c κs = omega (arith, before-end (c .before .before .before))
 
 returns-9 : tie.Need-returns-9
 returns-9 c =
-    let rest = c .before .before .before in
-    let other = sym (c .before .is-blank .ensures) ∙ c .if8 .left in
+    let rest = c .before .before .before .before in
+    let other = sym (c .before .before .is-blank .ensures) ∙ c .before .if8 .left in
     let ended = rest .before .hex-digits .ensures .ended (before-end rest) in
-    trace-says (goes-on (rest .before) ∙ address-wrong _ _ _ (read (rest .before)) _ (before-end rest) other ended)
+    trace-says
+    (goes-on (rest .before) ∙ address-wrong _ _ _ _ (read (rest .before)) _ (before-end rest) other ended ∙ sym (c .bad-at7 .ensures))
 
 -- closed by search
 pub trace-line-spec : {M : Type 1} → statement M
 trace-line-spec =
     tie.close
-    (tie.spec returns returns-2 (λ c. search needs) returns-3 returns-4 (λ c κs. search needs) returns-5 returns-6
-    hex-digits-requires (λ c κs. search needs) returns-7 (λ c. search needs) (λ c κs. search needs)
-    (λ c κs. search needs) returns-8 returns-9)
+    (tie.spec (λ c κs. search needs) returns (λ c κs. search needs) returns-2 (λ c. search needs) (λ c κs. search needs)
+    returns-3 (λ c κs. search needs) returns-4 (λ c κs. search needs) (λ c κs. search needs) returns-5
+    (λ c κs. search needs) returns-6 hex-digits-requires (λ c κs. search needs) returns-7 (λ c. search needs)
+    (λ c κs. search needs) (λ c κs. search needs) returns-8 bad-at-requires-7 returns-9)

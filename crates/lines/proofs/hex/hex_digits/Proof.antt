@@ -19,7 +19,7 @@ use Rattle.lines.proofs.hex.hex_digits.Tie as tie
 abbrev Inv-loop : tie.InvT-loop
 Inv-loop line from stop value₀ i₀ value i =
     (from ≤ i) × (i ≤ stop) × (value < 16 ^ (i - from))
-    × ((label : ℕ) → inAddress label 0 0 (drop from line) ≡ inAddress label (i - from) value (drop i line))
+    × ((label : ℕ) → inAddress label 0 0 (from + 1) (drop from line) ≡ inAddress label (i - from) value (i + 1) (drop i line))
 
 abbrev μ-loop : tie.MeasureT-loop
 μ-loop line from stop value₀ i₀ value i = stop - i
@@ -77,7 +77,7 @@ loop-again c =
       search needs,
       rw more (numeral-more 16 n (l .value) _ (l .inv .2) (told .2)),
       λ label. rw (more, told .1)
-          (l .inv .3 label ∙ address-more label n (l .value) _ (l .i) (omega arith) (told .0) (omega arith)),
+          (l .inv .3 label ∙ address-more label n (l .value) (l .i + 1) _ (l .i) (omega arith) (told .0) (omega arith)),
     )
 
 returns-2 : tie.Need-returns-2 Inv-loop μ-loop
