@@ -17,16 +17,17 @@ use Rattle.taking.specs.Opening.{openAnswer, opened, unopened, Opens}
 use Rattle.taking.specs.Taking.{takeAnswer, taken, Takes}
 use Rattle.units.specs.declared.Addr.{Addr}
 use Rattle.units.specs.Refusals.{badOrderLine}
+use Rattle.lines.specs.declared.BadLine.{BadLine}
 use Rattle.lines.specs.declared.Kind.{Kind}
 use Rattle.lines.specs.declared.TraceLine.the-variants.{Ref}
 use Rattle.lines.specs.Bytes.{longest}
 use Rattle.lines.specs.TraceLine.{traceLineOf}
 use Rattle.lines.specs.OrderLine.{orderLineOf, countsKind}
-use Rattle.reading.specs.Reading.{kindsNext, beginNext, traceNext, withStage, withTally, oneFlushed, withReading, worldOf, withWorld}
+use Rattle.reading.specs.Reading.{kindsNext, beginNext, traceNext, atLine, withStage, withTally, oneFlushed, withReading, worldOf, withWorld}
 use Rattle.reading.specs.Reading.{Desk, desk, outcome, answered, stays}
 use Rattle.reading.specs.Head.{begun, beginAt, orderOf, opening}
 use Rattle.reading.specs.Meaning.{gives, skips, fails, meant}
-use Rattle.reading.specs.Step.{traceStep, inTrace, isTooMany, stepOf, longLine}
+use Rattle.reading.specs.Step.{followed, refusedAt, traceStep, inTrace, isTooMany, stepOf, longLine}
 
 -- a taking: the world handed back goes into the next state
 pub taken-outcome : (d : Desk) (a : ℕ) (n : ℕ) (w : World) → Takes (worldOf d) (ref a) n w → outcome n (withWorld w d) ≡ traceStep d (gives (ref a))
@@ -106,9 +107,10 @@ pub passed-step : (d : Desk) (kind : Kind) (a : Addr) → countsKind (d .reading
     → traceStep d skips ≡ traceStep d (meant (d .reading .head .kinds) (Ref kind a))
 passed-step d kind a e = ap (λ (t : Bool). traceStep d (cond t (gives (ref (a .0))) skips)) (sym e)
 
--- a line that fails leaves all as it was
-pub failed-step : (d : Desk) (n : ℕ) → stays (answered n (d .reading)) d ≡ traceStep d (fails n)
-failed-step d n = cases (eqb n 0) (λ e. simp e) (λ e. simp e)
+-- a bad line leaves all as it was, but for the column
+pub failed-step : (d : Desk) (bad : BadLine) → (bad .number ≡ 0 → ⊥)
+    → stays (answered (bad .number) (atLine (d .reading .lines) (bad .column) (d .reading))) d ≡ traceStep d (fails bad)
+failed-step d bad ne = ap (outcome (bad .number)) (sym (settled-not (bad .number) (followed d (fails bad)) (refusedAt d (fails bad)) ne))
 
 -- a line longer than the buffer: `long_line` answers as `step` would, whatever the line says
 pub long-line-is-step : (d : Desk) (line : List ℕ) → longest < length line → stays (longLine (d .reading)) d ≡ stepOf d line

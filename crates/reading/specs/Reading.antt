@@ -51,26 +51,28 @@ traceNext = 8
 abbrev pub start : Reading
 start = record {
   lines = 0;
+  column = 0;
   stage = bminNext;
   head = record { numbers = replicate 6 0; kinds = All };
   tally = record { skipped = 0; flushes = 0 };
   opened = fresh zeroOrder;
 }
 
-abbrev pub withLines : ℕ → Reading → Reading
-withLines n v = record { lines = n; stage = v .stage; head = v .head; tally = v .tally; opened = v .opened }
+-- at a line, and at a column of it, or at none of them, 0
+abbrev pub atLine : ℕ → ℕ → Reading → Reading
+atLine n c v = record { lines = n; column = c; stage = v .stage; head = v .head; tally = v .tally; opened = v .opened }
 
 abbrev pub withStage : ℕ → Reading → Reading
-withStage n v = record { lines = v .lines; stage = n; head = v .head; tally = v .tally; opened = v .opened }
+withStage n v = record { lines = v .lines; column = v .column; stage = n; head = v .head; tally = v .tally; opened = v .opened }
 
 abbrev pub withHead : Head → Reading → Reading
-withHead h v = record { lines = v .lines; stage = v .stage; head = h; tally = v .tally; opened = v .opened }
+withHead h v = record { lines = v .lines; column = v .column; stage = v .stage; head = h; tally = v .tally; opened = v .opened }
 
 abbrev pub withTally : Tally → Reading → Reading
-withTally t v = record { lines = v .lines; stage = v .stage; head = v .head; tally = t; opened = v .opened }
+withTally t v = record { lines = v .lines; column = v .column; stage = v .stage; head = v .head; tally = t; opened = v .opened }
 
 abbrev pub withOpened : Opened → Reading → Reading
-withOpened o v = record { lines = v .lines; stage = v .stage; head = v .head; tally = v .tally; opened = o }
+withOpened o v = record { lines = v .lines; column = v .column; stage = v .stage; head = v .head; tally = v .tally; opened = o }
 
 abbrev pub withSkipped : ℕ → Tally → Tally
 withSkipped n t = record { skipped = n; flushes = t .flushes }

@@ -2,12 +2,13 @@
 // (SCOPE, "Program, order lines and din lines"). Both tables are lent.
 use heading::order_step;
 use lines::Kinds;
+use lines::PAST_LONGEST;
 use taking::Opened;
 use tracing::trace_step;
 use units::refusal;
 ghost use mathlib.Core.Path.{_≡_};
 ghost use Prim.Native.Nat.{_+_, min};
-ghost use Rattle.reading.specs.Reading.{desk, start as Reading·start, withLines};
+ghost use Rattle.reading.specs.Reading.{desk, start as Reading·start, atLine};
 ghost use Rattle.reading.specs.Step.{linesMost, Steps, longLine, ended as Reading·ended};
 
 mod heading;
@@ -39,6 +40,8 @@ pub struct Tally {
 pub struct Reading {
     // Lines read so far; at a refusal, the number of its line.
     pub lines: u64,
+    // At the refusal of a bad line of the trace, its column; else 0.
+    pub column: u32,
     // What comes next.
     pub stage: u32,
     pub head: Head,
@@ -46,7 +49,8 @@ pub struct Reading {
     pub opened: Opened,
 }
 
-// The next state, beside the answer number. Where that is not 0 the line next.lines is refused.
+// The next state, beside the answer number. Where that is not 0 the line next.lines is refused,
+// and a bad line of the trace at its column next.column.
 pub struct Step {
     pub answer: u32,
     pub next: Reading,
@@ -59,6 +63,7 @@ impl Reading {
     {
         Reading {
             lines: 0,
+            column: 0,
             stage: stage::BMIN,
             head: Head {
                 numbers: [0; 6],
@@ -109,9 +114,11 @@ impl Reading {
             };
         }
         if stage == stage::TRACE {
+            let mut next = counted;
+            next.column = PAST_LONGEST;
             Step {
-                answer: refusal::BAD_TRACE_LINE,
-                next: counted,
+                answer: refusal::TOO_LONG,
+                next,
             }
         } else {
             Step {
@@ -138,12 +145,13 @@ impl Reading {
         }
     }
 
-    // One line more is read, up to one more than an input may have.
+    // One line more is read, up to one more than an input may have, and no column of it is told yet.
     fn counted(self) -> Reading
-        ensures { λ r. ⌜ r ≡ withLines (min (self .lines + 1) (linesMost + 1)) self ⌝ }
+        ensures { λ r. ⌜ r ≡ atLine (min (self .lines + 1) (linesMost + 1)) 0 self ⌝ }
     {
         let mut next = self;
         let lines = self.lines;
+        next.column = 0;
         if lines < LINES_MOST {
             next.lines = lines + 1;
         } else {

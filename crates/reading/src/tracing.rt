@@ -1,6 +1,7 @@
 // A line of the trace: a reference that is counted is taken, an escape flushes, and any other good line is skipped.
 use crate::Reading;
 use crate::Step;
+use lines::BadLine;
 use lines::TraceLine;
 use lines::trace_line;
 use units::Addr;
@@ -11,7 +12,7 @@ ghost use mathlib.Core.List.{List};
 ghost use Rattle.cache.specs.Cache.{ref, flush as Given·flush};
 ghost use Rattle.units.specs.Refusals.{done};
 ghost use Rattle.reading.specs.Meaning.{gives, skips, meaningOf, tallied};
-ghost use Rattle.reading.specs.Reading.{oneMore, desk, outcome, answered, withTally};
+ghost use Rattle.reading.specs.Reading.{oneMore, desk, outcome, answered, atLine, withTally};
 ghost use Rattle.reading.specs.Step.{traceStep};
 
 pub(crate) fn trace_step(
@@ -37,10 +38,19 @@ pub(crate) fn trace_step(
             }
         }
         TraceLine::Escape => flush(reading, stacks),
-        TraceLine::Refused(answer) => Step {
-            answer,
-            next: reading,
-        },
+        TraceLine::Refused(bad) => refused(reading, bad),
+    }
+}
+
+// The line is bad.
+fn refused(reading: Reading, bad: BadLine) -> Step
+    ensures { λ r. ⌜ r ≡ answered (bad .number) (atLine (reading .lines) (bad .column) reading) ⌝ }
+{
+    let mut next = reading;
+    next.column = bad.column;
+    Step {
+        answer: bad.number,
+        next,
     }
 }
 

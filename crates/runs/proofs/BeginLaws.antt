@@ -45,6 +45,7 @@ module _ (d : Desk) (said : List OrderLine) (h : Heading (d .reading) said) wher
   unfolding givenIn
   begins order kinds = record {
     answer = ap (λ (o : Order). openAnswer o w) order;
+    clear = picked (λ (x : Desk). x .reading .column ≡ 0) (eqb answer 0) (λ e. h .clear) (λ e. h .clear);
     going = λ e f. absurd (true≢false f);
     begun = λ e f. subst (λ (x : Desk). Begun said (outcome answer x)) (sym (settled-done answer (begun (orderOf v) d) d e)) (record {
       order = order;
@@ -53,6 +54,7 @@ module _ (d : Desk) (said : List OrderLine) (h : Heading (d .reading) said) wher
         trace = refl;
         history = history-opened (orderOf v) w next (record { answer = sym e; left = sym (settled-done answer next w e) });
         tally = h .tally;
+        clear = h .clear;
         told = refl;
       };
     });
@@ -107,7 +109,7 @@ step-headed d line said h few =
     Answers = Headed d said (orderLineOf line) (orderAnswer (worldOf d) said (orderLineOf line))
 
     read : Heading (counted d .reading) said
-    read = record { stage = h .stage; six = h .six; kinds = h .kinds; reads = h .reads; tally = h .tally }
+    read = record { stage = h .stage; six = h .six; kinds = h .kinds; reads = h .reads; tally = h .tally; clear = refl }
 
     as-read : {o : Outcome} → Headed (counted d) said (orderLineOf line) (orderAnswer (worldOf d) said (orderLineOf line)) o → Answers o
-    as-read x = record { answer = x .answer; going = x .going; begun = x .begun }
+    as-read x = record { answer = x .answer; clear = x .clear; going = x .going; begun = x .begun }

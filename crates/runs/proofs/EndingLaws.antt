@@ -1,7 +1,7 @@
 -- An input ends with one of the numbers listed, so 3, 4 and 7 never come in the program; and with 26 exactly where it has too many lines.
 -- Assumes nothing.
 use Prim.Native.Nat.{ℕ, suc, _+_, _≤_, _<_}
-use mathlib.Core.Path.{_≡_, refl, sym, ap₂, _∙_, subst}
+use mathlib.Core.Path.{_≡_, refl, sym, _∙_, subst}
 use mathlib.Core.Bool.{Bool, true, false, not, false≢true}
 use mathlib.Core.List.{List, [], _∷_, _++_}
 use mathlib.Core.Logic.{_⊎_, inl, inr}
@@ -22,15 +22,15 @@ use Rattle.lines.specs.declared.Kinds.{Kinds}
 use Rattle.lines.specs.declared.OrderLine.{OrderLine}
 use Rattle.lines.specs.declared.OrderLine.the-variants.{Bmin, Bmax, Smax, Ways, Room, Refs, Kinds as Counting, Begin, Refused as BadOrder}
 use Rattle.lines.specs.OrderLine.{orderLineOf}
-use Rattle.reading.specs.Meaning.{Meaning, meaningOf, givenBy}
+use Rattle.reading.specs.Meaning.{Meaning, meaningOf, columnOr, givenBy}
 use Rattle.reading.specs.Reading.{desk, start, Outcome}
 use Rattle.reading.specs.Step.{linesMost}
 use Rattle.reading.specs.Tables.{stackEntries, Allotted}
 use Rattle.reading.proofs.TableLaws.{opening-in-program}
 use Rattle.runs.specs.Input.{Runs, isBegin, orderIn, kindsIn, meantIn}
-use Rattle.runs.specs.Endings.{Ending, endsAt, listed, traceAnswer, traceEnding, isInPlace, orderAnswer, inputEnding}
+use Rattle.runs.specs.Endings.{Ending, endsAt, endingOf, listed, traceAnswer, traceEnding, isInPlace, orderAnswer, inputEnding}
 use Rattle.runs.proofs.MeaningLaws.{meaning-cases}
-use Rattle.runs.proofs.ProgramLaws.{program-answer, program-line}
+use Rattle.runs.proofs.ProgramLaws.{program-ends}
 
 -- ---- the answer to a line that is read, over the tables of w: a number listed, or 3 where the tables are not those of the program; and not 26
 
@@ -73,7 +73,12 @@ trace-read w o past =
     (read-of w 6 refl (λ z. omega arith) (λ z. omega arith))
     o past)
     (read-of w 0 refl (λ z. omega arith) (λ z. omega arith))
-    (read-of w 11 refl (λ z. omega arith) (λ z. omega arith))
+    (λ c. (
+      read-of w 14 refl (λ z. omega arith) (λ z. omega arith),
+      read-of w 15 refl (λ z. omega arith) (λ z. omega arith),
+      read-of w 16 refl (λ z. omega arith) (λ z. omega arith),
+      read-of w 17 refl (λ z. omega arith) (λ z. omega arith),
+    ))
 
 order-read : (w : World) (said : List OrderLine) (l : OrderLine) → Read w (orderAnswer w said l)
 order-read w said l =
@@ -120,16 +125,17 @@ fits-done : (w : World) (n : ℕ) → n ≤ linesMost → (e : Ending) → mem (
 fits-done w n h e m three many = record { number = m; enough = λ a. three; few = λ z. absurd (many z); many = λ z. absurd (omega arith) }
 
 -- refused at a line that is read
-fits-refused : (w : World) (n answer line : ℕ) → Read w answer → (answer ≡ 0 → ⊥) → line ≤ linesMost → Fits w n (endsAt answer line)
-fits-refused w n answer line r ne h =
+fits-refused : (w : World) (n : ℕ) (e : Ending) → Read w (e .answer) → (e .answer ≡ 0 → ⊥) → e .line ≤ linesMost → Fits w n e
+fits-refused w n e r ne h =
     record { number = r .number; enough = r .enough; few = λ z. absurd (r .read z); many = λ z. inr (ne, r .read, h) }
 
 trace-fits : (w : World) (lines : List (List ℕ)) (o : Order) (kinds : Kinds) (past : List Given) (n : ℕ) → n ≤ linesMost
     → Fits w (n + length lines) (traceEnding o past n (meantIn kinds lines))
 unfolding traceEnding meantIn
-trace-fits w [] o kinds past n h = fits-done w (n + 0) (omega arith) (endsAt 0 n) refl (λ z. omega arith) (λ z. omega arith)
+trace-fits w [] o kinds past n h = fits-done w (n + 0) (omega arith) (endsAt 0 n 0) refl (λ z. omega arith) (λ z. omega arith)
 trace-fits w (line ∷ more) o kinds past n h =
     let answer = traceAnswer o past (meaningOf kinds line) in
+    let ending = endsAt answer (n + 1) (columnOr 0 (meaningOf kinds line)) in
     let rest = trace-fits w more o kinds (past ++ givenBy (meaningOf kinds line)) (n + 1) in
     cases (leb linesMost n)
     (λ t.
@@ -140,13 +146,13 @@ trace-fits w (line ∷ more) o kinds past n h =
     simp t
     (picked (Fits w (n + suc (length more))) (eqb answer 0)
     (λ e. fits-same (omega arith) (rest (omega arith)))
-    (λ e. fits-refused w (n + suc (length more)) answer (n + 1) (trace-read w o past kinds line) (eqb-false answer 0 e) (omega arith))))
+    (λ e. fits-refused w (n + suc (length more)) ending (trace-read w o past kinds line) (eqb-false answer 0 e) (omega arith))))
 
 input-fits : (lines : List (List ℕ)) (w : World) (said : List OrderLine) → length said ≤ 8
     → Fits w (length said + length lines) (inputEnding w said lines)
 unfolding inputEnding
 input-fits [] w said h =
-    fits-done w (length said + 0) (omega arith) (endsAt 10 (length said + 1)) refl (λ z. omega arith) (λ z. omega arith)
+    fits-done w (length said + 0) (omega arith) (endsAt 10 (length said + 1) 0) refl (λ z. omega arith) (λ z. omega arith)
 input-fits (line ∷ more) w said h =
     let l = orderLineOf line in
     let n = length said + suc (length more) in
@@ -158,14 +164,15 @@ input-fits (line ∷ more) w said h =
     picked (Fits w n) (isBegin l)
     (λ f. fits-same (omega arith) (trace-fits w more (orderIn said) (kindsIn said) [] (length said + 1) (omega arith)))
     (λ f. fits-same (omega arith) (rest (omega arith))))
-    (λ e. fits-refused w n (orderAnswer w said l) (length said + 1) (order-read w said l) (eqb-false (orderAnswer w said l) 0 e) (omega arith))
+    (λ e. fits-refused w n (endsAt (orderAnswer w said l) (length said + 1) 0) (order-read w said l) (eqb-false (orderAnswer w said l) 0 e)
+    (omega arith))
 
 -- ---- so of every run from the start, within the contracts
 
 module _ (st ct : List ℕ) (lines : List (List ℕ)) (o : Outcome) (run : Runs (desk start st ct) lines o) where
-  end-fits : Fits (unopened st ct) (length lines) (endsAt (o .answer) (o .left .reading .lines))
+  end-fits : Fits (unopened st ct) (length lines) (endingOf o)
   end-fits =
-      subst (Fits (unopened st ct) (length lines)) (sym (ap₂ endsAt (program-answer st ct lines o run) (program-line st ct lines o run)))
+      subst (Fits (unopened st ct) (length lines)) (sym (program-ends st ct lines o run))
       (fits-same (omega arith) (input-fits lines (unopened st ct) [] (omega arith)))
 
   -- over the program's tables the answer is one of those listed: so 3, 4 and 7 never come in the program

@@ -41,6 +41,7 @@ pub record Heading (v : Reading) (said : List OrderLine) : Type 0 where
   pub kinds : v .stage ≤ kindsNext → v .head .kinds ≡ All
   pub reads : said ≡ take (v .stage) (saidBy (v .head))
   pub tally : v .tally ≡ talliedIn []
+  pub clear : v .column ≡ 0
 
 -- the begin line is done: the trace begins, and none of its lines has come
 pub record Begun (said : List OrderLine) (o : Outcome) : Type 0 where
@@ -51,6 +52,7 @@ pub record Begun (said : List OrderLine) (o : Outcome) : Type 0 where
 -- the answer to the line l is n
 pub record Headed (d : Desk) (said : List OrderLine) (l : OrderLine) (n : ℕ) (o : Outcome) : Type 0 where
   pub answer : o .answer ≡ n
+  pub clear : o .left .reading .column ≡ 0
   pub going : o .answer ≡ 0 → isBegin l ≡ false → Heading (o .left .reading) (said ++ (l ∷ [])) × (worldOf (o .left) ≡ worldOf d)
   pub begun : o .answer ≡ 0 → isBegin l ≡ true → Begun said o
 
@@ -76,7 +78,7 @@ module _ (d : Desk) (said : List OrderLine) (h : Heading (d .reading) said) wher
   few-said = omega (arith, h .stage, stage-is)
 
   pub refuses : (l : OrderLine) → Headed d said l 10 (stays (answered 10 v) d)
-  refuses l = record { answer = refl; going = λ e. absurd (omega arith); begun = λ e. absurd (omega arith) }
+  refuses l = record { answer = refl; clear = h .clear; going = λ e. absurd (omega arith); begun = λ e. absurd (omega arith) }
 
   pub number-headed : (place n : ℕ) (l : OrderLine) → place < 6 → isBegin l ≡ false
       → ((a b c d e f : ℕ) (k : Kinds) → Placed place n l (headOf (a ∷ b ∷ c ∷ d ∷ e ∷ f ∷ []) k))
@@ -88,6 +90,7 @@ module _ (d : Desk) (said : List OrderLine) (h : Heading (d .reading) said) wher
       let at = eqb-true (v .stage) place e in
       record {
         answer = refl;
+        clear = h .clear;
         going = λ z f. (
           record {
             stage = omega arith;
@@ -97,6 +100,7 @@ module _ (d : Desk) (said : List OrderLine) (h : Heading (d .reading) said) wher
                 ∙ six-cases (λ (x : List ℕ). Placed place n l (headOf x (v .head .kinds)))
                 (λ a b c d e f. placed a b c d e f (v .head .kinds)) (v .head .numbers) (h .six);
             tally = h .tally;
+            clear = h .clear;
           },
           refl,
         );
@@ -112,6 +116,7 @@ module _ (d : Desk) (said : List OrderLine) (h : Heading (d .reading) said) wher
       let at = eqb-true (v .stage) kindsNext e in
       record {
         answer = refl;
+        clear = h .clear;
         going = λ z f. (
           record {
             stage = omega arith;
@@ -119,6 +124,7 @@ module _ (d : Desk) (said : List OrderLine) (h : Heading (d .reading) said) wher
             kinds = λ g. absurd (omega arith);
             reads = ap (λ (s : List OrderLine). s ++ (Counting k ∷ [])) (so-far kindsNext at);
             tally = h .tally;
+            clear = h .clear;
           },
           refl,
         );

@@ -28,7 +28,7 @@ pub long-refused : (v : Reading) → longLine v .answer ≡ 0 → ⊥
 long-refused v =
     picked (λ (s : Step). s .answer ≡ 0 → ⊥) (isTooMany v)
     (λ e z. omega arith)
-    (λ e. picked (λ (n : ℕ). n ≡ 0 → ⊥) (inTrace v) (λ f z. omega arith) (λ f z. omega arith))
+    (λ e. picked (λ (s : Step). s .answer ≡ 0 → ⊥) (inTrace v) (λ f z. omega arith) (λ f z. omega arith))
 
 -- any run within the contracts ends with what `runFrom` gives
 pub run-determined : {d : Desk} {lines : List (List ℕ)} {o : Outcome} → Runs d lines o → o ≡ runFrom d lines

@@ -1,3 +1,4 @@
+pub mod BadLineLaws
 pub mod BeginLaws
 pub mod EndingLaws
 pub mod HeaderLaws

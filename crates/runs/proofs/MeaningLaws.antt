@@ -10,7 +10,8 @@ use Rattle.lists.specs.Sums.{total}
 use Rattle.lists.proofs.Cases.{picked}
 use Rattle.lists.proofs.SumLaws.{total-append}
 use Rattle.cache.specs.Cache.{Given, ref, flush, referred, flushed}
-use Rattle.units.specs.Refusals.{badTraceLine}
+use Rattle.units.specs.Refusals.{badLabel, badGap, badAddress, tooLong}
+use Rattle.lines.specs.Bytes.{pastLongest}
 use Rattle.lines.specs.declared.Kinds.{Kinds}
 use Rattle.lines.specs.declared.TraceLine.{TraceLine}
 use Rattle.lines.specs.OrderLine.{countsKind}
@@ -22,13 +23,17 @@ use Rattle.reading.specs.Step.{inTrace, linesMost}
 use Rattle.runs.specs.Input.{meantIn}
 use Rattle.calls.proofs.HistoryLaws.{History}
 
--- what holds in each case holds of what every line comes to: one that is refused has number 11
-pub meaning-cases : (P : Meaning → Type 0) → ((g : Given) → P (gives g)) → P skips → P (fails badTraceLine)
+-- what holds in each case holds of what every line comes to: one that is bad has number 14, 15, 16 or 17
+abbrev bad : ℕ → ℕ → Meaning
+bad number column = fails (record { number = number; column = column })
+
+pub meaning-cases : (P : Meaning → Type 0) → ((g : Given) → P (gives g)) → P skips
+    → ((column : ℕ) → P (bad badLabel column) × P (bad badGap column) × P (bad badAddress column) × P (bad tooLong column))
     → (kinds : Kinds) (line : List ℕ) → P (meaningOf kinds line)
 meaning-cases P given skipped failed kinds line =
     trace-cases (λ (t : TraceLine). P (meant kinds t))
     (λ kind a. picked P (countsKind kinds kind) (λ e. given (ref (a .0))) (λ e. skipped))
-    (given flush) failed line
+    (given flush) (failed 1 .0) (failed 2 .1) (λ k h. failed k .2) (failed pastLongest .3) line
 
 pub meant-length : (kinds : Kinds) (lines : List (List ℕ)) → length (meantIn kinds lines) ≡ length lines
 unfolding meantIn
@@ -65,7 +70,7 @@ told-given flush = refl
 told-most : (m : Meaning) → toldBy m ≤ 1
 told-most (gives g) = omega (arith, told-given g)
 told-most skips = omega arith
-told-most (fails n) = omega arith
+told-most (fails bad) = omega arith
 
 told-few : (l : List Meaning) → total toldBy l ≤ length l
 told-few [] = omega arith
@@ -100,13 +105,14 @@ pub tally-more : (past : List Meaning) (m : Meaning) → length past < linesMost
 tally-more past (gives (ref a)) fits = tally-is past (gives (ref a)) _ _ (omega arith) (omega arith)
 tally-more past (gives flush) fits = tally-is past (gives flush) _ _ (omega arith) (omega (arith, told-few past, told-total past))
 tally-more past skips fits = tally-is past skips _ _ (omega (arith, told-few past, told-total past)) (omega arith)
-tally-more past (fails k) fits = tally-is past (fails k) _ _ (omega arith) (omega arith)
+tally-more past (fails bad) fits = tally-is past (fails bad) _ _ (omega arith) (omega arith)
 
 -- ---- on a desk
 
--- the lines of the trace so far come to `past`: what they give was taken, and each was told
+-- the lines of the trace so far come to `past`: what they give was taken, each was told, and none was bad
 pub record Stands (d : Desk) (past : List Meaning) : Type 0 where
   pub trace : inTrace (d .reading) ≡ true
   pub history : History (worldOf d) (givenIn past)
   pub tally : d .reading .tally ≡ talliedIn past
+  pub clear : d .reading .column ≡ 0
   pub told : AllTold past

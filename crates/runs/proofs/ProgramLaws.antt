@@ -27,7 +27,7 @@ use Rattle.reading.specs.Reading.{traceNext, start, Desk, desk, worldOf, Outcom
 use Rattle.reading.specs.Meaning.{givenIn, talliedIn}
 use Rattle.reading.specs.Step.{inTrace, linesMost, stepOf}
 use Rattle.runs.specs.Input.{Runs, runFrom, isBegin, headerOf, traceOf, orderIn, kindsIn, meantIn, meantOf, givenOf}
-use Rattle.runs.specs.Endings.{Ending, endsAt, traceEnding, inputEnding}
+use Rattle.runs.specs.Endings.{Ending, endsAt, endingOf, traceEnding, inputEnding}
 use Rattle.runs.proofs.InputLaws.{run-determined}
 use Rattle.calls.proofs.AnswerLaws.{count-is}
 use Rattle.calls.proofs.QuestionLaws.{misses-are}
@@ -44,8 +44,7 @@ record Serves (said : List OrderLine) (lines : List (List ℕ)) (o : Outcome) : 
   stands : Stands (o .left) (meantIn (kindsIn (said ++ headerOf lines)) (traceOf lines))
 
 record Leads (said : List OrderLine) (lines : List (List ℕ)) (e : Ending) (o : Outcome) : Type 0 where
-  answer : o .answer ≡ e .answer
-  line : o .left .reading .lines ≡ e .line
+  ends : endingOf o ≡ e
   end : o .answer ≡ 0 → Serves said lines o
 
 module _ (line : List ℕ) (more : List (List ℕ)) (said : List OrderLine) (o : Outcome) where
@@ -61,8 +60,7 @@ module _ (line : List ℕ) (more : List (List ℕ)) (said : List OrderLine) (o :
       ap₂ (λ (x : Order) (k : Kinds). traceEnding x [] n (meantIn k more)) (g .order) (g .kinds)
       ∙ ap (λ (n : ℕ). traceEnding (orderIn said) [] n (meantIn (kindsIn said) more)) number in
       record {
-        answer = f .answer ∙ ap (λ (e : Ending). e .answer) same;
-        line = f .line ∙ ap (λ (e : Ending). e .line) same;
+        ends = f .ends ∙ same;
         end = λ z.
             let e = f .end z in
             record {
@@ -75,8 +73,7 @@ module _ (line : List ℕ) (more : List (List ℕ)) (said : List OrderLine) (o :
   goes : isBegin (orderLineOf line) ≡ false → (e : Ending) → Leads (said ++ (orderLineOf line ∷ [])) more e o → Leads said (line ∷ more) e o
   unfolding headerOf traceOf
   goes b x f = record {
-    answer = f .answer;
-    line = f .line;
+    ends = f .ends;
     end = λ z.
         let e = f .end z in
         record {
@@ -90,9 +87,9 @@ run-leads : (lines : List (List ℕ)) (d : Desk) (said : List OrderLine) → Hea
 unfolding runFrom inputEnding
 run-leads [] d said h counted =
     let few = few-said d said h in
-    picked (λ (s : Step). Leads said [] (endsAt 10 (length said + 1)) (stays s d)) (inTrace (d .reading))
+    picked (λ (s : Step). Leads said [] (endsAt 10 (length said + 1) 0) (stays s d)) (inTrace (d .reading))
     (λ e. let at = eqb-true (d .reading .stage) traceNext e in absurd (omega (arith, h .stage)))
-    (λ e. record { answer = refl; line = omega arith; end = λ z. absurd (omega arith) })
+    (λ e. record { ends = ap (λ (n : ℕ). endsAt 10 n 0) (omega arith); end = λ z. absurd (omega arith) })
 run-leads (line ∷ more) d said h counted =
     let o = stepOf d line in
     let l = orderLineOf line in
@@ -104,7 +101,7 @@ run-leads (line ∷ more) d said h counted =
     let rest = run-leads more (o .left) (said ++ (l ∷ [])) in
     subst
     (λ (n : ℕ). Leads said (line ∷ more)
-    (cond (eqb n 0) (cond (isBegin l) trace then) (endsAt n (length said + 1)))
+    (cond (eqb n 0) (cond (isBegin l) trace then) (endsAt n (length said + 1) 0))
     (runFrom d (line ∷ more)))
     (s .answer)
     (both-picked (Leads said (line ∷ more)) (eqb (o .answer) 0)
@@ -118,12 +115,12 @@ run-leads (line ∷ more) d said h counted =
     (subst (λ (x : Ending). Leads (said ++ (l ∷ [])) more x (runFrom (o .left) more))
     (ap (λ (w : World). inputEnding w (said ++ (l ∷ [])) more) (g .1))
     (rest (g .0) (omega (arith, length-append said (l ∷ [])))))))
-    (λ e. record { answer = refl; line = omega arith; end = λ z. absurd (eqb-false (o .answer) 0 e z) }))
+    (λ e. record { ends = ap₂ (endsAt (o .answer)) (omega arith) (s .clear); end = λ z. absurd (eqb-false (o .answer) 0 e z) }))
 
 -- ---- from the start
 
 starts : Heading start []
-starts = record { stage = omega arith; six = refl; kinds = λ h. refl; reads = refl; tally = tally-none }
+starts = record { stage = omega arith; six = refl; kinds = λ h. refl; reads = refl; tally = tally-none; clear = refl }
 
 -- of any run within the contracts
 module _ (st ct : List ℕ) (lines : List (List ℕ)) (o : Outcome) (run : Runs (desk start st ct) lines o) where
@@ -131,12 +128,9 @@ module _ (st ct : List ℕ) (lines : List (List ℕ)) (o : Outcome) (run : Runs 
   leads =
       subst (Leads [] lines (inputEnding (unopened st ct) [] lines)) (sym (run-determined run)) (run-leads lines (desk start st ct) [] starts refl)
 
-  -- the answer, and the line that it is reported at, are those that the lines alone call for
-  pub program-answer : o .answer ≡ inputEnding (unopened st ct) [] lines .answer
-  program-answer = leads .answer
-
-  pub program-line : o .left .reading .lines ≡ inputEnding (unopened st ct) [] lines .line
-  program-line = leads .line
+  -- the answer, and the line and the column that it is reported at, are those that the lines alone call for
+  pub program-ends : endingOf o ≡ inputEnding (unopened st ct) [] lines
+  program-ends = leads .ends
 
   module _ (done : o .answer ≡ 0) where
     -- the order opened is that of the lines before the begin line

@@ -2,6 +2,7 @@
 use mathlib.Core.Path.{_≡_, sym, ap, _∙_}
 use Rattle.lines.specs.declared.TraceLine.{TraceLine}
 use Rattle.lines.specs.TraceLine.{traceLineOf}
+use Rattle.lines.proofs.CaseLaws.{bad-not-done}
 use Rattle.lines.proofs.SaidLaws.{trace-said-unique}
 use Rattle.reading.specs.declared.Step.{Step}
 use Rattle.reading.specs.Reading.{Desk, desk, Outcome, stays}
@@ -59,14 +60,19 @@ returns-3 c =
 
 returns-4 : tie.Need-returns-4
 returns-4 c =
-    let at = c .before .before .before in
-    let given = c .before .read2 .given in
-    told at (given .1) (failed-step (deskAt at) (given .0 .0))
+    let read = c .before .before in
+    let at = read .before .before in
+    let given = read .read2 .given in
+    let line = startOf at .args .line .now in
+    let same = trace-said-unique (at .trace-line .result) (traceLineOf line) (at .trace-line .ensures) in
+    told at (given .1)
+    (ap (λ (s : Step). stays s (deskAt at)) (c .refused .ensures)
+    ∙ failed-step (deskAt at) (given .0 .0) (bad-not-done line (given .0 .0) (sym same ∙ given .1)))
 
 -- closed by search
 pub trace-step-spec : {M : Type 1} → statement M
 trace-step-spec =
     tie.close
     (tie.spec (λ c κs. search needs) (λ c. search needs) (λ c κs. search needs) (λ c κs. search needs)
-    (λ c κs. search needs) (λ c. search needs) (λ c κs. search needs) (λ c. search needs) (λ c. search needs)
-    (λ c. search needs) returns returns-2 (λ c. search needs) returns-3 returns-4)
+    (λ c κs. search needs) (λ c. search needs) (λ c κs. search needs) (λ c. search needs) (λ c κs. search needs)
+    (λ c. search needs) (λ c. search needs) returns returns-2 (λ c. search needs) returns-3 returns-4)
