@@ -1,7 +1,7 @@
 -- The forms filled in are the lines, and a buffer with room for the longest line has room for each. Assumes nothing.
 use Prim.Native.Nat.{ℕ, _≤_, _<_}
 use mathlib.Core.Path.{_≡_, refl, sym, ap, _∙_, subst}
-use mathlib.Core.Bool.{Bool, cond}
+use mathlib.Core.Bool.{Bool, true, false, cond}
 use mathlib.Core.List.{List, [], _∷_}
 use native.Mathlib.Omega.{arith}
 use lib.Dec.{leb}
@@ -9,6 +9,7 @@ use lib.ListN.{length}
 use lib.Seq.{length-take-le}
 use borrow.Author.Tests.{le-leb, lt-leb}
 use Rattle.lists.proofs.Cases.{picked}
+use Rattle.units.specs.Refusals.{hasColumn}
 use Rattle.lines.specs.Bytes.{text}
 use Rattle.printing.specs.Printed.{fieldsAfter, cacheLine, refusalLine}
 use Rattle.printing.specs.Forms.{filled, most, Puts, lineMost, Prints}
@@ -20,13 +21,21 @@ cacheForm = text "b=# s=# w=# misses=#\n"
 abbrev pub refusalForm : List ℕ
 refusalForm = text "refused=# line=#\n"
 
+abbrev pub columnForm : List ℕ
+columnForm = text "refused=# line=# column=#\n"
+
 pub cache-form : (b s w misses : ℕ) → filled cacheForm (b ∷ s ∷ w ∷ misses ∷ []) ≡ cacheLine b s w misses
 unfolding filled fieldsAfter
 cache-form b s w misses = refl
 
-pub refusal-form : (answer line : ℕ) → filled refusalForm (answer ∷ line ∷ []) ≡ refusalLine answer line
-unfolding filled fieldsAfter
-refusal-form answer line = refl
+module _ (answer line column : ℕ) where
+  pub refusal-form : hasColumn answer ≡ false → filled refusalForm (answer ∷ line ∷ []) ≡ refusalLine answer line column
+  unfolding filled fieldsAfter
+  refusal-form e = simp e
+
+  pub column-form : hasColumn answer ≡ true → filled columnForm (answer ∷ line ∷ column ∷ []) ≡ refusalLine answer line column
+  unfolding filled fieldsAfter
+  column-form e = simp e
 
 -- room for the longest line is room for each
 pub cache-most : most cacheForm ≤ lineMost
@@ -36,6 +45,10 @@ cache-most = omega arith
 pub refusal-most : most refusalForm ≤ lineMost
 unfolding most
 refusal-most = omega arith
+
+pub column-most : most columnForm ≤ lineMost
+unfolding most
+column-most = omega arith
 
 -- ---- a line put into a lent buffer
 

@@ -15,9 +15,9 @@ use Rattle.taking.specs.Opening.{unopened}
 use Rattle.taking.specs.Questions.{has, asked, missesOf}
 use Rattle.reading.specs.Reading.{desk, Outcome, start as noLine}
 use Rattle.runs.specs.Input.{Runs, headerOf, orderIn, givenOf}
-use Rattle.runs.specs.Endings.{inputEnding}
+use Rattle.runs.specs.Endings.{Ending, endingOf, inputEnding}
 use Rattle.runs.proofs.InputLaws.{run-there}
-use Rattle.runs.proofs.ProgramLaws.{program-answer, program-line, program-order, program-limits, program-misses, program-refs, program-tally}
+use Rattle.runs.proofs.ProgramLaws.{program-ends, program-order, program-limits, program-misses, program-refs, program-tally}
 use Rattle.feeding.specs.declared.Feeding.{Feeding}
 use Rattle.feeding.specs.Lines.{linesOf}
 use Rattle.feeding.specs.Machine.{Held, fed, finished}
@@ -25,8 +25,8 @@ use Rattle.feeding.specs.Feeding.{byLines, start, heldBy}
 use Rattle.feeding.proofs.RunLaws.{finished-run}
 use Rattle.printing.specs.declared.Walk.{Walk}
 use Rattle.printing.specs.Grid.{eachFrom, at, gridOf}
-use Rattle.printing.specs.Printed.{headLines, cacheLine, refusalLine, lineAt, linesBy, tableOf, outputOf}
-use Rattle.printing.specs.Output.{lineOver, tableOver, printedFor}
+use Rattle.printing.specs.Printed.{headLines, cacheLine, lineAt, linesBy, tableOf, outputOf}
+use Rattle.printing.specs.Output.{lineOver, tableOver, refusalFor, endingOver, printedFor}
 
 -- ---- lines of caches, one after the other
 
@@ -87,23 +87,24 @@ module _ (st ct : List ℕ) (lines : List (List ℕ)) (o : Outcome) (run : Runs 
 
 pub run-printed : (st ct : List ℕ) (lines : List (List ℕ)) (o : Outcome) → Runs (desk noLine st ct) lines o
     → let e = inputEnding (unopened st ct) [] lines in
-    outputOf (o .answer) (o .left .reading) (o .left .counts) ≡ cond (eqb (e .answer) 0) (tableOver lines) (refusalLine (e .answer) (e .line))
+    outputOf (o .answer) (o .left .reading) (o .left .counts) ≡ endingOver e lines
 run-printed st ct lines o run =
     let e = inputEnding (unopened st ct) [] lines in
-    let same = program-answer st ct lines o run in
+    let ends = program-ends st ct lines o run in
+    let same = ap (λ (e : Ending). e .answer) ends in
     let table = tableOf (o .left .reading .opened) (o .left .reading .tally) (o .left .counts) in
-    let refusal = refusalLine (o .answer) (o .left .reading .lines) in
+    let refusal = refusalFor (endingOf o) in
     cases (eqb (o .answer) 0)
     (λ t.
     let done = eqb-true (o .answer) 0 t in
     ap (λ (b : Bool). cond b table refusal) t
     ∙ table-printed st ct lines o run done
-    ∙ sym (ap (λ (b : Bool). cond b (tableOver lines) (refusalLine (e .answer) (e .line))) (eq-eqb (e .answer) 0 (sym same ∙ done))))
+    ∙ sym (ap (λ (b : Bool). cond b (tableOver lines) (refusalFor e)) (eq-eqb (e .answer) 0 (sym same ∙ done))))
     (λ t.
     let refused = eqb-false (o .answer) 0 t in
     ap (λ (b : Bool). cond b table refusal) t
-    ∙ ap₂ refusalLine same (program-line st ct lines o run)
-    ∙ sym (ap (λ (b : Bool). cond b (tableOver lines) (refusalLine (e .answer) (e .line))) (ne-eqb (e .answer) 0 (λ z. refused (same ∙ z)))))
+    ∙ ap refusalFor ends
+    ∙ sym (ap (λ (b : Bool). cond b (tableOver lines) (refusalFor e)) (ne-eqb (e .answer) 0 (λ z. refused (same ∙ z)))))
 
 -- THE LAW: after the bytes of an input, in whatever slices, and its end, the output is the one that is defined for these bytes
 pub program-prints : (st ct bytes : List ℕ) (f : Feeding) (st′ ct′ : List ℕ)

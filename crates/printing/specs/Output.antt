@@ -24,8 +24,11 @@ tableOver lines =
     headLines (total referred (givenOf lines)) (talliedIn (meantOf lines))
     ++ linesBy (lineOver (givenOf lines)) (gridOf (orderIn (headerOf lines)))
 
+abbrev pub refusalFor : Ending → List ℕ
+refusalFor e = refusalLine (e .answer) (e .line) (e .column)
+
 abbrev pub endingOver : Ending → List (List ℕ) → List ℕ
-endingOver e lines = cond (eqb (e .answer) 0) (tableOver lines) (refusalLine (e .answer) (e .line))
+endingOver e lines = cond (eqb (e .answer) 0) (tableOver lines) (refusalFor e)
 
 -- what the program prints for these bytes, with tables of these lengths
 abbrev pub printedFor : List ℕ → List ℕ → List ℕ → List ℕ

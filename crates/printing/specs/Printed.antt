@@ -4,6 +4,7 @@ use Prim.Native.Char.{code}
 use mathlib.Core.Bool.{cond}
 use mathlib.Core.List.{List, [], _∷_, _++_}
 use lib.Dec.{eqb, ltb}
+use Rattle.units.specs.Refusals.{hasColumn}
 use Rattle.lines.specs.Bytes.{text}
 use Rattle.taking.specs.declared.Counted.{Counted}
 use Rattle.taking.specs.declared.Opened.{Opened}
@@ -54,8 +55,10 @@ headLines refs tally =
 abbrev pub cacheLine : ℕ → ℕ → ℕ → ℕ → List ℕ
 cacheLine b s w misses = lineOf (text "b", b) ((text "s", s) ∷ (text "w", w) ∷ (text "misses", misses) ∷ [])
 
-abbrev pub refusalLine : ℕ → ℕ → List ℕ
-refusalLine answer line = lineOf (text "refused", answer) ((text "line", line) ∷ [])
+-- the column is told with the numbers of a bad trace line alone
+abbrev pub refusalLine : ℕ → ℕ → ℕ → List ℕ
+refusalLine answer line column =
+    lineOf (text "refused", answer) ((text "line", line) ∷ cond (hasColumn answer) ((text "column", column) ∷ []) [])
 
 -- the line of one cache, by what the question gives: nothing is invented beside a refusal
 abbrev pub lineBy : Walk → Counted → List ℕ
@@ -74,4 +77,4 @@ tableOf v tally ct = headLines (v .taken) tally ++ linesBy (lineAt v ct) (gridOf
 
 -- THE OUTPUT: the table, or the refusal alone
 abbrev pub outputOf : ℕ → Reading → List ℕ → List ℕ
-outputOf answer v ct = cond (eqb answer 0) (tableOf (v .opened) (v .tally) ct) (refusalLine answer (v .lines))
+outputOf answer v ct = cond (eqb answer 0) (tableOf (v .opened) (v .tally) ct) (refusalLine answer (v .lines) (v .column))

@@ -4,6 +4,7 @@ use order::Order;
 use reading::Tally;
 use taking::Opened;
 use units::ByteExp;
+use units::refusal::has_column;
 ghost use mathlib.Core.Path.{_≡_};
 ghost use Prim.Native.Nat.{_+_, _≤_};
 ghost use lib.ListN.{length, getD};
@@ -112,12 +113,16 @@ pub fn cache_line(at: Walk, opened: Opened, counts: &[u32], out: &mut [u8]) -> u
     fill(out, 0, b"b=# s=# w=# misses=#\n", &numbers)
 }
 
-// The refusal.
-pub fn refusal_line(answer: u32, line: u64, out: &mut [u8]) -> usize
-    ensures { λ r. ⌜ Prints (refusalLine answer line) (now (out .entry)) r (now (out .exit)) ⌝ }
+// The refusal, with the column of a trace line that is bad.
+pub fn refusal_line(answer: u32, line: u64, column: u32, out: &mut [u8]) -> usize
+    ensures { λ r. ⌜ Prints (refusalLine answer line column) (now (out .entry)) r (now (out .exit)) ⌝ }
 {
     if out.len() < LINE_MOST {
         return 0;
+    }
+    if has_column(answer) {
+        let numbers = [answer as u64, line, column as u64];
+        return fill(out, 0, b"refused=# line=# column=#\n", &numbers);
     }
     let numbers = [answer as u64, line];
     fill(out, 0, b"refused=# line=#\n", &numbers)

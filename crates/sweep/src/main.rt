@@ -34,7 +34,7 @@ fn main() {
             );
         }
     } else {
-        if !refused(answer, reading.lines) {
+        if !refused(answer, reading.lines, reading.column) {
             io::write_all(
                 STDERR_FILENO,
                 b"sweep: standard output could not be written, so the refusal is not whole\n",

@@ -27,8 +27,8 @@ pub(crate) fn table(reading: Reading, counts: &[u32]) -> bool {
     true
 }
 
-pub(crate) fn refused(answer: u32, line: u64) -> bool {
+pub(crate) fn refused(answer: u32, line: u64, column: u32) -> bool {
     let mut out = [0u8; LINE_MOST];
-    let n = refusal_line(answer, line, &mut out);
+    let n = refusal_line(answer, line, column, &mut out);
     io::write_all(STDOUT_FILENO, &out[..n])
 }
