@@ -1,6 +1,6 @@
 -- THE DEMANDS of docs/SCOPE.md, each as a statement about the functions that ship: whatever is within a function's contract does this. Nothing is
 -- proved here: each line below a statement names its proof. Assumes nothing.
-use Prim.Native.Nat.{ℕ, suc, _+_, _*_, _^_, _≤_, _<_}
+use Prim.Native.Nat.{ℕ, suc, _+_, _-_, _*_, _^_, _≤_, _<_}
 use mathlib.Core.Path.{_≡_, ap, _∙_}
 use mathlib.Core.Bool.{true, false, cond, not}
 use mathlib.Core.List.{List, [], _∷_, _++_, map}
@@ -35,16 +35,24 @@ use Rattle.strip.specs.Joined.{joinedRuns, StripsTo}
 use Rattle.strip.specs.Strip.{keptOf, stripLimits, Strips}
 use Rattle.strip.proofs.JoinedLaws.{joined-all, calls-kept, whole-as-before, whole-dropped, whole-misses}
 use Rattle.strip.proofs.StripClaims.{strip-refused, strip-short, strip-untouched, left-is-kept, kept-as-before, dropped-hit, misses-same}
+use Rattle.units.specs.Refusals.{hasColumn}
+use Rattle.lines.specs.Column.{FirstWrong}
+use Rattle.lines.specs.Said.{traceSaid}
+use Rattle.lines.specs.TraceLine.{badAt, traceLineOf, isRead, isGood}
+use Rattle.lines.specs.declared.TraceLine.{TraceLine}
+use Rattle.lines.proofs.ColumnLaws.{column-unique}
+use Rattle.lines.proofs.StageLaws.{long-at-256, taken-if-good, column-right, number-right}
 use Rattle.reading.specs.declared.Tally.{Tally}
-use Rattle.reading.specs.Reading.{Desk, desk, withReading, withLines, Outcome, stays, start}
+use Rattle.reading.specs.Reading.{Desk, desk, withReading, atLine, Outcome, stays, start}
 use Rattle.reading.specs.Step.{isTooMany, longLine, Steps}
 use Rattle.reading.specs.Tables.{Allotted}
 use Rattle.reading.proofs.TableLaws.{opening-in-program}
 use Rattle.runs.specs.Input.{Runs, headerOf, traceOf, orderIn, givenOf}
-use Rattle.runs.specs.Endings.{inputEnding}
+use Rattle.runs.specs.Endings.{endingOf, inputEnding}
+use Rattle.runs.proofs.BadLineLaws.{refused-so}
 use Rattle.runs.proofs.EndingLaws.{run-listed}
 use Rattle.runs.proofs.NumberLaws.{refused-line}
-use Rattle.runs.proofs.ProgramLaws.{program-answer, program-line, program-misses, program-refs, program-tally, program-lines}
+use Rattle.runs.proofs.ProgramLaws.{program-ends, program-misses, program-refs, program-tally, program-lines}
 use Rattle.feeding.specs.declared.Feeding.{Feeding}
 use Rattle.feeding.specs.Calls.{Calls as Feeds}
 use Rattle.feeding.specs.Feeding.{byLines, heldBy, start as noByte}
@@ -190,25 +198,54 @@ module _ (l : List ℕ) (b s : ℕ) (filter out : List ℕ) (r : Stripped) (filt
   pub demand-1-strip-untouched : (r .answer ≡ 0 → ⊥) → (r .answer ≡ 13 → ⊥) → filter′ ≡ filter
   demand-1-strip-untouched = strip-untouched strip
 
+-- ---- one line of a trace, read as r by `trace_line`
+
+module _ (line : List ℕ) (r : TraceLine) (reads : traceSaid r ≡ traceSaid (traceLineOf line)) where
+  -- longer than 255 bytes: refused with 17 at column 256, whatever the bytes are
+  pub length-comes-first : 255 < length line → r ≡ badAt 17 256
+  length-comes-first = long-at-256 line r reads
+
+  module _ (short : length line ≤ 255) where
+    -- else it is refused exactly where it is no good line
+    pub refused-if-bad : isRead r ≡ isGood line
+    refused-if-bad = taken-if-good line r reads short
+
+    -- at column c such that, the length apart, the bytes before it can be continued to a good line, and with the byte at it, or with the end
+    -- there, they cannot
+    pub column-is-right : (n c : ℕ) → r ≡ badAt n c → FirstWrong isGood line c
+    column-is-right n c = column-right line r reads short (record { number = n; column = c })
+
+    -- and the number goes by the part: the label is column 1, the gap after it begins at 2, and the address comes later
+    pub number-is-right : (n c : ℕ) → r ≡ badAt n c → n ≡ cond (eqb c 1) 14 (cond (eqb c 2) 15 16)
+    number-is-right n c = number-right line r reads short (record { number = n; column = c })
+
+-- there is no other such column
+pub column-is-one : (line : List ℕ) (c c′ : ℕ) → FirstWrong isGood line c → FirstWrong isGood line c′ → c ≡ c′
+column-is-one = column-unique isGood
+
 -- ---- one line of the program's input, in any state and over any tables
 
--- refused: nothing changes but the number of the line
+-- refused: nothing changes but the number of the line and the column
 pub demand-1-line-refused : (d : Desk) (line : List ℕ) (n : ℕ) (d′ : Desk) → Steps d line n d′ → (n ≡ 0 → ⊥)
-    → d′ ≡ withReading (withLines (d′ .reading .lines) (d .reading)) d
+    → d′ ≡ withReading (atLine (d′ .reading .lines) (d′ .reading .column) (d .reading)) d
 demand-1-line-refused = refused-line
 
 -- ---- the program, over every list of lines and any tables lent
 
 module _ (st ct : List ℕ) (lines : List (List ℕ)) (o : Outcome) (run : Runs (desk start st ct) lines o) where
-  -- a run within the contracts of `step`, `long_line` and `ended` ends with the answer, and at the line, that the lines alone call for
-  -- (crates/runs/specs/Endings.antt)
-  pub demand-1-program : (o .answer ≡ inputEnding (unopened st ct) [] lines .answer)
-      × (o .left .reading .lines ≡ inputEnding (unopened st ct) [] lines .line)
-  demand-1-program = (program-answer st ct lines o run, program-line st ct lines o run)
+  -- a run within the contracts of `step`, `long_line` and `ended` ends with the answer, and at the line and the column, that the lines alone call
+  -- for (crates/runs/specs/Endings.antt)
+  pub demand-1-program : endingOf o ≡ inputEnding (unopened st ct) [] lines
+  demand-1-program = program-ends st ct lines o run
 
-  -- and, over the program's own tables of 8,192 and 1,920 entries, that is one of the listed ones
-  pub demand-1-listed : Allotted (unopened st ct) → mem (o .answer) (0 ∷ 1 ∷ 2 ∷ 5 ∷ 6 ∷ 10 ∷ 11 ∷ 26 ∷ []) ≡ true
+  -- and, over the program's own tables of 8,192 and 1,920 entries, the answer is one of the listed ones
+  pub demand-1-listed : Allotted (unopened st ct) → mem (o .answer) (0 ∷ 1 ∷ 2 ∷ 5 ∷ 6 ∷ 10 ∷ 14 ∷ 15 ∷ 16 ∷ 17 ∷ 26 ∷ []) ≡ true
   demand-1-listed = run-listed st ct lines o run
+
+  -- where it is 14 to 17, the line that is told reads so, with that number at the column that is told
+  pub demand-1-bad-line : hasColumn (o .answer) ≡ true
+      → traceLineOf (getD lines (o .left .reading .lines - 1) []) ≡ badAt (o .answer) (o .left .reading .column)
+  demand-1-bad-line = refused-so st ct lines o run
 
 -- over these tables the begin line is refused with 2 exactly where block sizes times room exceed 8,192, after 1, and never with 3
 pub program-tables : (o : Order) (st ct : List ℕ) → Allotted (unopened st ct)
