@@ -2,8 +2,10 @@
 
 Random traces use few blocks in few sets, so that they collide, and small rooms and ceilings, so that 5 and 6 come. Flushes
 stand anywhere in them, at their ends, where the ceiling is reached, and just before a stack would overflow. About half of
-the random inputs are then damaged: bytes flipped, inserted or deleted, lines repeated, moved or dropped, the end cut off.
+the random inputs are then damaged: bytes flipped, inserted or deleted, lines repeated, moved or dropped, the end cut off,
+lines put in that are wrong in one part or another.
 """
+import itertools
 import pathlib
 import random
 
@@ -12,6 +14,7 @@ ORDER = [b"bmin=4", b"bmax=4", b"smax=1", b"ways=2", b"room=8", b"refs=100"]
 BEGIN = b"begin=din"
 HEAD = b"\n".join(ORDER + [BEGIN, b""])
 TELLING_BYTES = b"\n\n\r\0 \t019afAFgGx/:;@`=-+\x7f\x80\xff\v\f5"
+WRONG_BYTES = [b"\0", b"\t", b"\r", b" ", b"2", b"5", b"g", b"\x80", b"\xff"]  # each is wrong somewhere in a trace line
 LARGE = 3000  # references in a large random input
 FLUSH_LABEL = ord("4")
 NUMBERS_AT_A_LIMIT = [
@@ -31,6 +34,8 @@ def fixed_inputs():
     """Pairs of a name and an input."""
     yield from very_long_lines()
     yield from every_byte_in_some_places()
+    yield from wrong_bytes_in_every_place()
+    yield from wrong_lines_of_many_lengths()
     yield from every_cut_of_the_worked_input()
     many = b"".join(b"2 %x %s\n" % (n, b"c" * (n * 7 % 251)) for n in range(128)) * 12
     yield "lines across the edges of any read buffer", HEAD.replace(b"refs=100", b"refs=2000") + many
@@ -64,6 +69,29 @@ def every_byte_in_some_places():
     for line in (b"kinds=al%c", b"kinds=all%c", b"begin=di%c", b"begin=din%c"):
         for byte in range(256):
             yield "byte %d in order line %r" % (byte, line), b"\n".join(ORDER + [line % byte, BEGIN, b"2 0\n"])
+
+
+def wrong_bytes_in_every_place():
+    """Each wrong byte at each column of a trace line, with what stands after it there and with nothing."""
+    above = HEAD + b"2 10\n"
+    of_255_bytes = b"2".ljust(247) + b"89abcdef"
+    places = {b"2 12345678 c": range(1, 14), b"4\t \tF0": range(1, 8), of_255_bytes: [1, 2, 3, 129, 247, 248, 254, 255, 256]}
+    for line, columns in places.items():
+        for column in columns:
+            before, after = line[: column - 1], line[column:]
+            yield "line %r cut before column %d" % (line, column), above + before
+            for byte in WRONG_BYTES:
+                for end in (after + b"\n", b"\n", b""):
+                    yield "byte %r at column %d of %r" % (byte, column, line), above + before + byte + end
+
+
+def wrong_lines_of_many_lengths():
+    """Lines that begin well or not, as long as a line may be, and longer."""
+    good = [b"2 10 ", b"4 0 ", b"2 ", b"2", b""]
+    wrong = [b"2 10\r", b"2 10\0", b"2 123456789 ", b"2 0x10 ", b"22 0 ", b"2,0 ", b"5 0 ", b" 2 0", b"\xff", BEGIN]
+    for begin, length, byte in itertools.product(good + wrong, [254, 255, 256, 257, 300], [b"c", b" ", b"\0", b"\x80"]):
+        for end in (b"\n2 10\n", b""):
+            yield "line %r of %d bytes" % (begin, length), HEAD + b"2 10\n" + begin.ljust(length, byte) + end
 
 
 def every_cut_of_the_worked_input():
@@ -161,6 +189,15 @@ def trace_line(rng, label, address):
     return line
 
 
+def wrong_line(rng):
+    """A line that is wrong in one part or another, or in none, and perhaps too long."""
+    label = rng.choice([b"2", b"2", b"4", b"5", b"22", b" 2", b"\0", b"\xff", b""])
+    gap = rng.choice([b" ", b" ", b"\t", b",", b"\r", b"", b" " * rng.randint(1, 260)])
+    address = rng.choice([b"10", b"12345678", b"123456789", b"0x10", b"1g", b"g", b"1\0", b""])
+    rest = rng.choice([b"", b" c", b"\r", b"\0", b"\x80", b" ".ljust(rng.randint(1, 260), b"c")])
+    return label + gap + address + rest
+
+
 def damaged(rng, data):
     """The input with one thing changed, most often in the trace."""
     head, begin, trace = data.partition(BEGIN + b"\n")
@@ -168,7 +205,7 @@ def damaged(rng, data):
         head, data = head + begin, trace
     else:
         head = b""
-    way = rng.randrange(6)
+    way = rng.randrange(7)
     at = rng.randrange(len(data) + 1)
     byte = bytes([rng.choice(TELLING_BYTES)])
     if way == 0:
@@ -180,7 +217,7 @@ def damaged(rng, data):
     if way == 3:
         return head + data[:at]
     lines = data.split(b"\n")
-    line = lines.pop(rng.randrange(len(lines)))
+    line = wrong_line(rng) if way == 6 else lines.pop(rng.randrange(len(lines)))
     if way == 4:
         line = line.ljust(rng.randint(254, 257), b"c")
     for _ in range(rng.choice([1, 1, 2])):

@@ -25,6 +25,7 @@ FLUSH = "flush"  # stands among the addresses where every cache is emptied
 NUMBER = rb"(0|[1-9][0-9]{0,9})"
 KINDS_LINE = re.compile(rb"kinds=(all|fetch|data)")
 TRACE_LINE = re.compile(rb"([0-4])[ \t]+([0-9a-fA-F]{1,8})(?:[ \t].*)?", re.DOTALL)
+ENDINGS = [b"", b"0", b" 0", b"0 0"]  # whatever a trace line may begin with, one of these makes a whole one of it
 
 
 class Cache:
@@ -70,7 +71,7 @@ def strip(addresses, b, s):
 
 
 class Refused(Exception):
-    """A refusal: its number and its line, counted from 1."""
+    """A refusal: its number, its line and, where a trace line is malformed, the column. Lines and columns (bytes) count from 1."""
 
 
 class Lines:
@@ -80,26 +81,45 @@ class Lines:
         self.stream = stream
         self.number = 0
 
-    def next(self, too_long):
-        """The next line, or None where the input has ended. A line above the buffer is refused with `too_long`."""
+    def next(self):
+        """The next line, or None where the input has ended."""
         line = self.stream.readline()
         if line == b"":
             return None
         self.number += 1
         if self.number > MOST_LINES:
             raise Refused(26, self.number)
-        if line.endswith(b"\n"):
-            line = line[:-1]
-        if len(line) > LINE_BYTES:
-            raise Refused(too_long, self.number)
-        return line
+        return line[:-1] if line.endswith(b"\n") else line
 
     def next_order_line(self):
         """The next line. The begin line has not come yet, so the end of the input is refused one past the last line."""
-        line = self.next(too_long=10)
+        line = self.next()
         if line is None:
             raise Refused(10, self.number + 1)
+        if len(line) > LINE_BYTES:
+            raise Refused(10, self.number)
         return line
+
+    def next_trace_line(self):
+        """The label and the address of the next line, or None where the input has ended."""
+        line = self.next()
+        if line is None:
+            return None
+        if len(line) > LINE_BYTES:
+            raise Refused(17, self.number, LINE_BYTES + 1)
+        found = TRACE_LINE.fullmatch(line)
+        if not found:
+            column = wrong_column(line)
+            raise Refused({1: 14, 2: 15}.get(column, 16), self.number, column)  # a label is one byte, and a gap comes next
+        return found.group(1), int(found.group(2), 16)
+
+
+def wrong_column(line):
+    """Where the first byte stands that cannot stand there, in a line that is no trace line; one past the end where each can."""
+    for column in range(1, len(line) + 1):
+        if not any(TRACE_LINE.fullmatch(line[:column] + ending) for ending in ENDINGS):
+            return column
+    return len(line) + 1
 
 
 def read_order(lines):
@@ -144,13 +164,10 @@ def read_trace(lines, order, counted_labels):
     given, taken, skipped = [], 0, 0
     blocks_seen = {b: set() for b in range(order["bmin"], order["bmax"] + 1)}  # since the last flush
     while True:
-        line = lines.next(too_long=11)
-        if line is None:
+        read = lines.next_trace_line()
+        if read is None:
             return given, skipped
-        found = TRACE_LINE.fullmatch(line)
-        if not found:
-            raise Refused(11, lines.number)
-        label, address = found.group(1), int(found.group(2), 16)
+        label, address = read
         if label == FLUSH_LABEL:
             given.append(FLUSH)
             for seen in blocks_seen.values():
@@ -177,7 +194,7 @@ def sweep(data):
         order, counted_labels = read_order(lines)
         given, skipped = read_trace(lines, order, counted_labels)
     except Refused as refusal:
-        return b"refused=%d line=%d\n" % refusal.args
+        return b" ".join(b"%s=%d" % pair for pair in zip([b"refused", b"line", b"column"], refusal.args)) + b"\n"
     flushes = given.count(FLUSH)
     table = [b"edition=2\n", b"refs=%d\n" % (len(given) - flushes), b"skipped=%d\n" % skipped, b"flushes=%d\n" % flushes]
     for b in range(order["bmin"], order["bmax"] + 1):

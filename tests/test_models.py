@@ -1,5 +1,6 @@
 #!/usr/bin/env python3
 """Checks simulator.py and library_model.py against the numbers of docs/SCOPE.md, and against each other."""
+import itertools
 import pathlib
 import random
 import re
@@ -60,8 +61,9 @@ class Printed(unittest.TestCase):
         self.assertEqual(printed, GRID)
 
     def test_refusal_numbers(self):
-        """The numbers of SCOPE's table are those of the code, and README.md has advice for each refusal."""
-        printed = [int(number) for number in re.findall(r"(?m)^\| \*\*R\d+\*\* \| (\d+) \|", SCOPE)]
+        """The numbers of SCOPE's table that are given are those of the code, and README.md has advice for each refusal."""
+        rows = re.findall(r"(?m)^\| \*\*R\d+\*\* \| (\d+) \| (.*) \|$", SCOPE)
+        printed = [int(number) for number, when in rows if not when.startswith("never:")]
         coded = re.findall(r"pub const \w+: u32 = (\d+);", (ROOT / "crates/units/src/refusal.rt").read_text())
         self.assertEqual(sorted(map(int, coded)), printed)
         advised = re.findall(r"(?m)^\| (\d+) \|", (ROOT / "README.md").read_text())
@@ -202,9 +204,54 @@ class Refusals(unittest.TestCase):
     def test_too_many_lines(self):
         text = b"bmin=4\nbmax=4\nsmax=0\nways=1\nroom=8\nrefs=9\nbegin=din\n2 0\n" + b"x" * 300
         self.addCleanup(setattr, simulator, "MOST_LINES", simulator.MOST_LINES)
-        self.assertEqual(simulator.sweep(text), b"refused=11 line=9\n")
+        self.assertEqual(simulator.sweep(text), b"refused=17 line=9 column=256\n")
         simulator.MOST_LINES = 8
         self.assertEqual(simulator.sweep(text), b"refused=26 line=9\n")
+
+
+class Columns(unittest.TestCase):
+    """Where a trace line is wrong."""
+
+    HEAD = b"bmin=4\nbmax=4\nsmax=0\nways=1\nroom=8\nrefs=9\nbegin=din\n"
+
+    def test_by_hand(self):
+        for line, number, column in [
+            (b"", 14, 1), (b" 2 0", 14, 1), (b"\t2 0", 14, 1), (b"5 0", 14, 1), (b"/ 0", 14, 1), (b"\0", 14, 1), (b"\x80 0", 14, 1),
+            (b"begin=din", 14, 1), (b"x" * 255, 14, 1),
+            (b"2", 15, 2), (b"22 0", 15, 2), (b"2,0", 15, 2), (b"2\r", 15, 2), (b"2\0 0", 15, 2), (b"2\xa00", 15, 2), (b"4", 15, 2),
+            (b"2 ", 16, 3), (b"2\t", 16, 3), (b"2 g", 16, 3), (b"2 \r", 16, 3), (b"4 x", 16, 3), (b"2 0x10", 16, 4), (b"2\t0x10", 16, 4),
+            (b"2 \t g", 16, 5), (b"2 10\r", 16, 5), (b"2 10\0", 16, 5), (b"2 10\xff", 16, 5), (b"2 1g0h", 16, 4),
+            (b"2 123456789", 16, 11), (b"2 000000010", 16, 11), (b"2 12345678\r", 16, 11), (b"2  123456789", 16, 12),
+            (b"2".ljust(254) + b"g", 16, 255), (b"2".ljust(255), 16, 256), (b"2".ljust(247) + b"1234567g", 16, 255),
+            (b"2 10 ".ljust(256, b"c"), 17, 256), (b"2 10 ".ljust(300, b"c"), 17, 256), (b"2".ljust(256), 17, 256),
+            (b"x" * 256, 17, 256), (b"22 0".ljust(300), 17, 256), (b"2 0x10".ljust(256), 17, 256), (b"\0" * 256, 17, 256),
+        ]:  # fmt: skip
+            printed = b"refused=%d line=9 column=%d\n" % (number, column)
+            self.assertEqual(simulator.sweep(self.HEAD + b"2 0\n" + line + b"\n2 0\n"), printed, line)
+            self.assertEqual(simulator.sweep(self.HEAD + b"4 0\n" + (line or b"\n")), printed, line)
+
+    def test_no_column(self):
+        for data, printed in [
+            (self.HEAD.replace(b"ways=1", b"ways=0"), b"refused=1 line=7\n"),
+            (self.HEAD.replace(b"room=8", b"room=8193"), b"refused=2 line=7\n"),
+            (self.HEAD.replace(b"refs=9", b"refs=1") + b"2 0\n" * 2, b"refused=5 line=9\n"),
+            (self.HEAD.replace(b"room=8", b"room=1") + b"2 0\n2 10\n", b"refused=6 line=9\n"),
+            (self.HEAD.replace(b"ways=1", b"ways= 1"), b"refused=10 line=4\n"),
+            (self.HEAD.replace(b"ways=1", b"ways=1".ljust(300)), b"refused=10 line=4\n"),
+            (self.HEAD.replace(b"begin=din", b"begin=din".ljust(256)) + b"2 0\n", b"refused=10 line=7\n"),
+        ]:
+            self.assertEqual(simulator.sweep(data), printed)
+
+    def test_what_can_be_continued(self):
+        """Of lines of up to 4 bytes: each byte before the column stands there in some trace line of up to 7 bytes, that at it in none."""
+        letters = b"25 \tg"
+        lines = [bytes(line) for length in range(8) for line in itertools.product(letters, repeat=length)]
+        good = {line for line in lines if simulator.TRACE_LINE.fullmatch(line)}
+        begun = {line[:end] for line in good for end in range(len(line) + 1)}
+        for line in lines:
+            if len(line) <= 4 and line not in good:
+                stands = [line[:end] in begun for end in range(1, len(line) + 1)] + [False]
+                self.assertEqual(simulator.wrong_column(line), stands.index(False) + 1, line)
 
 
 class Agreement(unittest.TestCase):

@@ -27,7 +27,7 @@ class Stored(unittest.TestCase):
         for line in (ROOT / "tests/README.md").read_text().splitlines():
             heading = re.fullmatch(r"## .*: `(\w+)/`", line)
             folder = heading.group(1) if heading else folder
-            row = re.match(r"\| (\w+) \| (?:table|\d+ at line \d+) \| (\w+) \| ", line)
+            row = re.match(r"\| (\w+) \| (?:table|\d+ at line \d+(?:, column \d+)?) \| (\w+) \| ", line)
             if row:
                 rows.append("%s/%s" % (folder, row.group(1)))
                 self.assertRegex(scope, r"\*\*%s\.?\*\*" % row.group(2), line)
@@ -74,8 +74,9 @@ class Renewal(unittest.TestCase):
             (self.VECTOR, "misses=5", "misses=6"),
             (self.SAMPLE, "misses=5", "misses=6"),
             ("crates/sweep/stdout", "refs=8", "refs=9"),
-            ("tests/vectors/label/label_5.out", "refused=11 line=8", "refused=11 line=9"),
-            ("tests/README.md", "| label_5 | 11 at line 8 |", "| label_5 | table |"),
+            ("tests/vectors/label/label_5.out", "refused=14 line=8 column=1", "refused=14 line=8 column=2"),
+            ("tests/README.md", "| label_5 | 14 at line 8, column 1 |", "| label_5 | table |"),
+            ("tests/README.md", "| label_9 | 14 at line 8, column 1 |", "| label_9 | 14 at line 8 |"),
         ]:
             right = self.change(name, old, new)
             wrong = (self.copy / name).read_text()
