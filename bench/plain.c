@@ -1,7 +1,7 @@
 /* The sweep program's job in plain C, to compare its speed with. The algorithm of docs/SCOPE.md as written: one stack for each block
    size, most recent first; a walk that leaves at the block it seeks; the depth at each s by the trailing zeros of the xor; a flush
    that zeroes what was used.
-   It prints the same table, or the refusals 1, 2, 5, 6, 10 and 11. It has no refusal 26, and nothing here is proved.
+   It prints the same table, or the refusals 1, 2, 5, 6, 10 and 14 to 17. It has no refusal 26, and nothing here is proved.
 
      gcc -O2 -o plain bench/plain.c
      ./plain <input                 the table
@@ -15,6 +15,7 @@
 enum { CHUNK = 65536, LINE = 255, MOST_SIZES = 8, MOST_S = 14, MOST_WAYS = 16, MOST_ENTRIES = 8192 };
 enum { ALL = 1 << 0 | 1 << 1 | 1 << 2 | 1 << 3, FETCH = 1 << 2, DATA = 1 << 0 | 1 << 1 }; /* a bit for each label */
 enum { FLUSH_LABEL = 4 };
+enum { ORDER, TRACE }; /* the parts of the input */
 
 static uint64_t bmin, bmax, smax, ways, room, refs; /* the order */
 static unsigned kinds = ALL;
@@ -29,13 +30,26 @@ static void refuse(int number)
     exit(0);
 }
 
+static void refuse_at(int number, int column)
+{
+    printf("refused=%d line=%llu column=%d\n", number, (unsigned long long)line_number, column);
+    exit(0);
+}
+
+static void refuse_long(int part)
+{
+    if (part == TRACE)
+        refuse_at(17, LINE + 1);
+    refuse(10);
+}
+
 /* Reading: a chunk of the input, and one line of it. */
 
 static uint8_t chunk[CHUNK], line[LINE];
 static size_t chunk_at, chunk_end;
 
 /* The length of the next line, now in the buffer without its LF; -1 at the end of the input. */
-static int next_line(int number_if_long)
+static int next_line(int part)
 {
     int length = 0;
     line_number++;
@@ -55,7 +69,7 @@ static int next_line(int number_if_long)
         if (byte == '\n')
             return length;
         if (length == LINE)
-            refuse(number_if_long);
+            refuse_long(part);
         line[length++] = byte;
     }
 }
@@ -69,7 +83,7 @@ static int line_is(int length, const char *text)
 
 static uint64_t order_number(const char *name)
 {
-    int length = next_line(10), at = strlen(name), digits = length - at;
+    int length = next_line(ORDER), at = strlen(name), digits = length - at;
     if (length < at || memcmp(line, name, at) != 0 || digits < 1 || digits > 10 || (line[at] == '0' && digits > 1))
         refuse(10);
     uint64_t value = 0;
@@ -89,7 +103,7 @@ static void read_order(void)
     ways = order_number("ways=");
     room = order_number("room=");
     refs = order_number("refs=");
-    int length = next_line(10);
+    int length = next_line(ORDER);
     if (length >= 6 && memcmp(line, "kinds=", 6) == 0) {
         if (line_is(length, "kinds=all"))
             kinds = ALL;
@@ -99,7 +113,7 @@ static void read_order(void)
             kinds = DATA;
         else
             refuse(10);
-        length = next_line(10);
+        length = next_line(ORDER);
     }
     if (!line_is(length, "begin=din"))
         refuse(10);
@@ -123,19 +137,34 @@ static int hex_value(uint8_t byte)
     return byte >= 'a' && byte <= 'f' ? byte - 'a' + 10 : -1;
 }
 
+/* Refuses the line in the buffer, which is no trace line, at the first byte that cannot stand there, or one past the end. */
+static void refuse_line(int length)
+{
+    int at = 1, digits = 0;
+    if (length < 1 || line[0] < '0' || line[0] > '4')
+        refuse_at(14, 1);
+    if (length < 2 || !is_blank(line[1]))
+        refuse_at(15, 2);
+    while (at < length && is_blank(line[at]))
+        at++;
+    for (; at < length && digits < 8 && hex_value(line[at]) >= 0; at++)
+        digits++;
+    refuse_at(16, at + 1);
+}
+
 /* The label of the line in the buffer, and its address. */
 static unsigned parse(int length, uint32_t *address)
 {
     int at = 1, digits = 0, digit;
     uint32_t value = 0;
     if (length < 3 || line[0] < '0' || line[0] > '4' || !is_blank(line[1]))
-        refuse(11);
+        refuse_line(length);
     while (at < length && is_blank(line[at]))
         at++;
     for (; at < length && (digit = hex_value(line[at])) >= 0; at++, digits++)
         value = value << 4 | digit;
     if (digits < 1 || digits > 8 || (at < length && !is_blank(line[at])))
-        refuse(11);
+        refuse_line(length);
     *address = value;
     return line[0] - '0';
 }
@@ -197,7 +226,7 @@ int main(int argc, char **argv)
     int read_only = argc > 1 && strcmp(argv[1], "--read-only") == 0, length;
     uint32_t address;
     read_order();
-    while ((length = next_line(11)) >= 0) {
+    while ((length = next_line(TRACE)) >= 0) {
         unsigned label = parse(length, &address);
         if (label == FLUSH_LABEL) {
             flush();
