@@ -162,9 +162,12 @@ class Size(unittest.TestCase):
 
     def test_refusals_and_no_answers(self):
         ended = self.size("16..16", data=TRACE + b"2 0x40\n")
-        self.assertEqual((ended.returncode, ended.stdout), (1, b"refused=11 line=17\n"))
-        self.assertIn(b"at line 17 (line 9 of the recording)", ended.stderr)
-        self.assertIn(b"the line: 2 0x40", ended.stderr)
+        self.assertEqual((ended.returncode, ended.stdout), (1, b"refused=16 line=17 column=4\n"))
+        self.assertIn(b"refused with 16 at line 17 (line 9 of the recording), byte 4: `x` cannot stand in an address", ended.stderr)
+        self.assertIn(b"  the line: 2 0x40\n               ^\n", ended.stderr)
+        ended = self.size("16..16", data=TRACE + b"2 40 ".ljust(256, b"c"))
+        self.assertEqual((ended.returncode, ended.stdout), (1, b"refused=17 line=17 column=256\n"))
+        self.assertIn(b"line 17 (line 9 of the recording), byte 256: a trace line has more than 255 bytes\n", ended.stderr)
         lackey = b"lackey_to_din.py"
         for data, said in [(b"bmin=4\n" + TRACE, b"scripts/sweep"), (b"==3== Lackey\n", lackey), (b"I  04001000,3\n", lackey)]:
             ended = self.size(data=data)

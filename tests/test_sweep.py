@@ -3,11 +3,13 @@
 
 The simulator stands in for the program, so nothing need be built; where the program is built, the last test runs it too.
 """
+import contextlib
 import gzip
 import os
 import pathlib
 import subprocess
 import tempfile
+import time
 import unittest
 
 import inputs
@@ -86,31 +88,210 @@ class Sweep(unittest.TestCase):
         ]:
             self.expect_refused(data, *said)
 
+    def expect_told(self, line, *told):
+        """All that is said of a trace line, the sixteenth of the input. What follows it is not read."""
+        data = WORKED + line + b"\n2 0\n"
+        self.assertEqual(self.both(data), (1, simulator.sweep(data), "".join(text + "\n" for text in told)))
+
+    def test_where_a_trace_line_is_wrong(self):
+        """The mark stands below the byte as it is shown, or one past the end; the first line says the same in words."""
+        mend = "  what to do: mend or cut that line"
+        crlf = "  hint: the line ends in CR LF: tr -d '\\r' <FILE | scripts/sweep -"
+        missing = "  hint: the address is missing; perhaps the trace was cut here"
+        after = "  hint: after an address the line ends, or a blank and a comment follow"
+        for line, *told in [
+            (
+                b"7 40",
+                "refused with 14 at line 16, byte 1: `7` cannot stand as a label: 0 to 4 must",
+                "  the line: 7 40",
+                "            ^",
+                mend,
+                "  hint: the labels are 0 read, 1 write, 2 fetch, 3 unknown, 4 flush",
+            ),
+            (
+                b"",
+                "refused with 14 at line 16, byte 1: the line ends where a label, 0 to 4, must stand",
+                "  the line: (empty)",
+                "            ^",
+                mend,
+                "  hint: sed '/^$/d' takes empty lines out",
+            ),
+            (
+                b"\t2 40",
+                "refused with 14 at line 16, byte 1: a tab cannot stand as a label: 0 to 4 must",
+                "  the line: \\t2 40",
+                "            ^^",
+                mend,
+                "  hint: sed 's/^[ \\t]*//' takes blanks before a label out",
+            ),
+            (
+                b"22 0",
+                "refused with 15 at line 16, byte 2: `2` cannot stand right after the label: a space or a tab must",
+                "  the line: 22 0",
+                "             ^",
+                mend,
+                "  hint: a label is one digit",
+            ),
+            (
+                b"2",
+                "refused with 15 at line 16, byte 2: the line ends where a space or a tab must stand",
+                "  the line: 2",
+                "             ^",
+                mend,
+                missing,
+            ),
+            (
+                b"2\r",
+                "refused with 15 at line 16, byte 2: a carriage return cannot stand right after the label: a space or a tab must",
+                "  the line: 2\\r",
+                "             ^^",
+                mend,
+                crlf,
+            ),
+            (
+                b"2 ",
+                "refused with 16 at line 16, byte 3: the line ends where a hex digit must stand",
+                "  the line: 2 ",
+                "              ^",
+                mend,
+                missing,
+            ),
+            (
+                b"2 -1",
+                "refused with 16 at line 16, byte 3: `-` cannot stand in an address",
+                "  the line: 2 -1",
+                "              ^",
+                mend,
+            ),
+            (
+                b"2 0x10",
+                "refused with 16 at line 16, byte 4: `x` cannot stand in an address, nor right after it",
+                "  the line: 2 0x10",
+                "               ^",
+                mend,
+                "  hint: addresses are without 0x: sed 's/0[xX]//' takes it out",
+            ),
+            (
+                b"2\t \t1g c",
+                "refused with 16 at line 16, byte 6: `g` cannot stand in an address, nor right after it",
+                "  the line: 2\\t \\t1g c",
+                "                   ^",
+                mend,
+                after,
+            ),
+            (
+                b"2 10\r",
+                "refused with 16 at line 16, byte 5: a carriage return cannot stand in an address, nor right after it",
+                "  the line: 2 10\\r",
+                "                ^^",
+                mend,
+                crlf,
+            ),
+            (
+                b"2 10\0",
+                "refused with 16 at line 16, byte 5: a zero byte cannot stand in an address, nor right after it",
+                "  the line: 2 10\\x00",
+                "                ^^^^",
+                mend,
+                after,
+            ),
+            (
+                b"2 10\x80c",
+                "refused with 16 at line 16, byte 5: byte 0x80 cannot stand in an address, nor right after it",
+                "  the line: 2 10\\x80c",
+                "                ^^^^",
+                mend,
+                after,
+            ),
+            (
+                b"2 123456789",
+                "refused with 16 at line 16, byte 11: `9` is a ninth hex digit, and an address has at most 8",
+                "  the line: 2 123456789",
+                "                      ^",
+                mend,
+                "  hint: the last 8 digits are the low 32 bits of an address; keep these",
+            ),
+            (
+                b"2 12345678;c",
+                "refused with 16 at line 16, byte 11: `;` cannot stand right after an address",
+                "  the line: 2 12345678;c",
+                "                      ^",
+                mend,
+                after,
+            ),
+        ]:
+            self.expect_told(line, *told)
+
+    def test_where_a_long_line_is_wrong(self):
+        """What is shown fits 80 columns, so that the mark stays below its byte: 32 characters before it, 48 in all."""
+        mend = "  what to do: mend or cut that line"
+        self.expect_told(
+            b"2".ljust(200) + b"g" + b"c" * 54,
+            "refused with 16 at line 16, byte 201: `g` cannot stand in an address",
+            "  the line: .. " + " " * 32 + "g" + "c" * 15 + " .. (255 bytes)",
+            "               " + " " * 32 + "^",
+            mend,
+        )
+        self.expect_told(
+            b"2".ljust(255),
+            "refused with 16 at line 16, byte 256: the line ends where a hex digit must stand",
+            "  the line: .. " + " " * 32,
+            "               " + " " * 32 + "^",
+            mend,
+            "  hint: the address is missing; perhaps the trace was cut here",
+        )
+        self.expect_told(
+            b"2 1-".ljust(255, b"\0"),
+            "refused with 16 at line 16, byte 4: `-` cannot stand in an address, nor right after it",
+            "  the line: 2 1-" + r"\x00" * 11 + " .. (255 bytes)",
+            "               ^",
+            mend,
+            "  hint: after an address the line ends, or a blank and a comment follow",
+        )
+        self.expect_told(
+            b"7 0x".ljust(5000, b"c"),
+            "refused with 17 at line 16, byte 256: a trace line has more than 255 bytes",
+            "  the line: .. " + "c" * 48 + " .. (more than 255 bytes)",
+            "               " + " " * 32 + "^",
+            "  what to do: shorten its comment, or cut that line",
+        )
+
     def test_trace_hints(self):
-        for line, said in [
-            (b"0 0x40", "without 0x"),
-            (b"0 40\r", "CR LF"),
-            (b"", "the line: (empty)"),
-            (b" 0 40", "without a blank"),
-            (b"0 123456789", "1 to 8 hex digits"),
+        for line, *said in [
+            (b" 0 40", "takes blanks before a label out"),
             (b" L 1fff000520,8", "lackey_to_din.py"),
             (b"==7== Exit code: 0", "lackey_to_din.py"),
             (b"# a comment", "no comment lines"),
-            (b"r 40", "a label is a digit: 0 read, 1 write, 2 fetch, 3 unknown, 4 a flush"),
+            (b"r 40", "`r` cannot stand as a label", "the labels are 0 read, 1 write, 2 fetch, 3 unknown, 4 flush"),
             (b"4", "the address is missing"),
-            (b"7 40", "one digit, 0 to 4"),
-            (b"2", "the address is missing"),
-            (b"2,40", "spaces or tabs"),
             (b"bmin=4", "two orders"),
-            (b"2 40 ".ljust(300, b"c"), ".. (more than 255 bytes)"),
+            (b"\xef\xbb\xbf2 40", "byte 0xef cannot stand as a label", "byte order mark"),
+            (b"2 1`", "a backquote cannot stand in an address"),
+            (b"2\v40", "a vertical tab cannot stand right after the label"),
+            (b"2 40\f", "a form feed cannot stand in an address, nor right after it"),
         ]:
-            self.expect_refused(WORKED + line + b"\n2 0\n", "refused with 11 at line 16", "mend or cut", said)
+            self.expect_refused(WORKED + line + b"\n2 0\n", "at line 16, byte ", "mend or cut", *said)
 
     def test_a_line_far_down(self):
         """The offending line is found in a file and in what a pipe gave last, across the edges of what is read at once."""
         far = HEAD.replace(b"refs=100", b"refs=4000000") + b"2 10 a comment that makes the line long\n" * 40000
-        self.expect_refused(far + b"2 bad#\n" + b"2 20\n" * 9, "refused with 11 at line 40008", "the line: 2 bad#\n")
-        self.expect_refused(far + b"2 bad#", "refused with 11 at line 40008", "the line: 2 bad#\n")
+        said = "refused with 16 at line 40008, byte 6", "the line: 2 bad#\n                 ^\n"
+        self.expect_refused(far + b"2 bad#\n" + b"2 20\n" * 9, *said)
+        self.expect_refused(far + b"2 bad#", *said)
+
+    def test_a_line_long_before_the_last(self):
+        """The offending line is found where lines come one by one and the program begins late."""
+        self.stub("sleep 1\n" + standin.SIMULATOR)
+        command = [ROOT / "scripts/sweep", "--program", self.program, "-"]
+        with subprocess.Popen(command, stdin=subprocess.PIPE, stdout=subprocess.PIPE, stderr=subprocess.PIPE) as sweep:
+            with contextlib.suppress(BrokenPipeError):  # where a busy machine makes us slower than the program
+                for piece in [HEAD + b"2 0\n2 0x1\n"] + [b"2 0\n"] * 600:
+                    sweep.stdin.write(piece)
+                    sweep.stdin.flush()
+                    time.sleep(0.001)
+            printed, errors = sweep.communicate()
+        self.assertEqual((sweep.returncode, printed), (1, b"refused=16 line=9 column=4\n"))
+        self.assertIn(b"  the line: 2 0x1\n               ^\n", errors)
 
     def test_no_answer(self):
         self.expect_no_answer(self.sweep(name=self.folder), "Is a directory")
@@ -121,6 +302,7 @@ class Sweep(unittest.TestCase):
             ("exec >&-", "the program printed nothing"),
             ("kill -KILL $$", "ended with status -9, by a signal"),
             ("exit 4", "ended with status 4"),
+            ("printf 'refused=14 line=16\\n'", "no whole table was printed: there is no table: the program printed refused=14 line=16"),
             ("printf 'edition=2\\nrefs=8\\n'", "no whole table was printed"),
             ("printf 'edition=2\\nrefs=8\\nskipped=0\\nflushes=0\\nb=4 s=0 w=2 misses=8\\n'", "no whole table was printed"),
         ]:
@@ -128,6 +310,13 @@ class Sweep(unittest.TestCase):
             self.expect_no_answer(self.sweep(WORKED), said)
         self.program = self.folder / "none"
         self.expect_no_answer(self.sweep(WORKED), "none")
+
+    def test_a_refusal_that_is_not_known(self):
+        for printed, where in [("refused=11 line=8", "line 8"), ("refused=99 line=8 column=3", "line 8, byte 3")]:
+            self.stub("cat >/dev/null\necho " + printed)
+            status, _, errors = self.both(WORKED)
+            told = ["refused with %s at %s: a refusal that this script does not know" % (printed[8:10], where), "  the line: 2 0"]
+            self.assertEqual((status, errors.splitlines()[:2]), (1, told))
 
     def test_closed(self):
         for closed in ("<&-", ">&-"):
@@ -168,7 +357,7 @@ class Sweep(unittest.TestCase):
     def test_the_program(self):
         self.program = standin.BUILT
         self.assertEqual(self.both(WORKED), (0, simulator.sweep(WORKED), ""))
-        self.expect_refused(WORKED + b"2 0x1\n", "refused with 11 at line 16", "the line: 2 0x1")
+        self.expect_refused(WORKED + b"2 0x1\n", "refused with 16 at line 16, byte 4", "the line: 2 0x1")
         for name, data in list(inputs.fixed_inputs())[:3]:
             self.assertEqual(self.both(data)[:2], (1, simulator.sweep(data)), name)
 

@@ -75,7 +75,8 @@ class Tables(unittest.TestCase):
         self.assertIsNone(json.loads(table(none, "--json").stdout)["caches"][0]["miss_ratio"])
 
     def test_refused(self):
-        for text, said in [("refused=6 line=13\n", "refused=6 line=13"), (WORKED[:-1], "may be cut off"), ("", "line 1")]:
+        refused = "refused=16 line=13 column=4\n"
+        for text, said in [(refused, "the program printed " + refused), (WORKED[:-1], "may be cut off"), ("", "line 1")]:
             for form in ("--csv", "--json"):
                 ended = table(text, form)
                 self.assertEqual((ended.returncode, ended.stdout, ended.stderr.count("\n")), (1, "", 1))

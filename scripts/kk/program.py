@@ -89,7 +89,7 @@ class Input:
         self.chunks = chunks if chunks is not None else iter(lambda: file.read1(CHUNK), b"")
         self.head = b""
         self.above = above
-        self.kept = collections.deque(maxlen=256)  # pairs: the number of a chunk's first line, the chunk
+        self.kept = collections.deque(maxlen=256)  # pairs: the number of a chunk's first line, the chunk, small ones joined
         self.lines = 1
 
     def feed(self, pipe):
@@ -105,7 +105,10 @@ class Input:
         """Keeps a chunk in mind, and says whether there was one."""
         if len(self.head) < 4096:
             self.head += chunk[:4096]
-        self.kept.append((self.lines, chunk))
+        if self.kept and len(self.kept[-1][1]) < CHUNK:
+            self.kept[-1][1].extend(chunk)
+        else:
+            self.kept.append((self.lines, bytearray(chunk)))
         self.lines += chunk.count(b"\n")
         return chunk != b""
 
