@@ -1,5 +1,6 @@
 // The program's input as it comes: slices of bytes, one after the other, cut into lines, and each line given to
 // the reader (SCOPE, "Program, order lines and din lines"). Both tables are lent.
+#![tactic(auto)]
 ghost use Rattle.std.specs.Prelude.{◌≡◌, ◌≤◌, length};
 ghost use Rattle.feeding.specs.Feeding.{start as Feeding·start, Feeds, Ends};
 ghost use Rattle.feeding.specs.Parts.{Copied};
@@ -8,7 +9,7 @@ use lines::LONGEST;
 use reading::{LINES_MOST, Reading};
 
 // How far the input is read, and the line that has begun: its bytes are the first `len` of the line buffer.
-#[derive(Drop)]
+#[derive(Clone, Copy)]
 pub struct Feeding {
     pub reading: Reading,
     // Where it is not 0 the input is refused at line reading.lines, and no further byte is looked at.

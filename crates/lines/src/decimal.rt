@@ -4,7 +4,7 @@ ghost use Rattle.lines.specs.OrderLine.{starts_with, is_whole};
 ghost use Rattle.lines.specs.Parts.{number_of, number_after};
 
 // A number that was read, or bytes that are none.
-#[derive(Drop)]
+#[derive(Clone, Copy)]
 pub(crate) enum Number {
     Value(u32),
     Wrong,

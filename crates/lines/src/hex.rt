@@ -4,7 +4,7 @@ ghost use Rattle.lines.specs.Bytes.{is_blank};
 ghost use Rattle.lines.specs.Parts.{blanks, hex_or16, HexDigits};
 
 // Hex digits that were read: their value, and the place after the last.
-#[derive(Drop)]
+#[derive(Clone, Copy)]
 pub(crate) struct Digits {
     pub value: u32,
     pub end: usize,

@@ -1,5 +1,6 @@
 // The readers of one line, given without its LF: of a trace line and of an order line (SCOPE,
 // "Program, order lines and din lines").
+#![tactic(auto)]
 ghost use Rattle.std.specs.Prelude.{◌≡◌, ◌+◌, ◌≤◌};
 ghost use Rattle.lines.specs.TraceLine.{bad_at, labelled, trace_line_of};
 ghost use Rattle.lines.specs.OrderLine.{order_line_of, counts_kind};
@@ -13,7 +14,7 @@ mod decimal;
 mod hex;
 
 // What a reference does: labels 0 to 3.
-#[derive(Drop)]
+#[derive(Clone, Copy)]
 pub enum Kind {
     Read,
     Write,
@@ -23,7 +24,7 @@ pub enum Kind {
 
 // Why a line of the trace is refused, and where: at the first byte that cannot stand there, or one past the end.
 // Columns are bytes, counted from 1.
-#[derive(Drop)]
+#[derive(Clone, Copy)]
 pub struct BadLine {
     // The refusal number.
     pub number: u32,
@@ -31,7 +32,7 @@ pub struct BadLine {
 }
 
 // What a line of the trace reads as.
-#[derive(Drop)]
+#[derive(Clone, Copy)]
 pub enum TraceLine {
     Ref(Kind, Addr),
     // Label 4, an escape: well-formed, and no reference.
@@ -40,7 +41,7 @@ pub enum TraceLine {
 }
 
 // What an order counts: labels 0 to 3, label 2, or labels 0 and 1.
-#[derive(Drop)]
+#[derive(Clone, Copy)]
 pub enum Kinds {
     All,
     Fetch,
@@ -48,7 +49,7 @@ pub enum Kinds {
 }
 
 // What a line of the order reads as. A number above 32 bits is handed on as 4294967295, outside every limit.
-#[derive(Drop)]
+#[derive(Clone, Copy)]
 pub enum OrderLine {
     Bmin(u32),
     Bmax(u32),

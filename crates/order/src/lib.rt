@@ -1,5 +1,7 @@
 // The order: its numbers, their limits, a constructor that checks them, and what the numbers come to
 // (SCOPE, "The order's numbers").
+#![tactic(auto)]
+
 ghost use Rattle.std.specs.Prelude.{◌≡◌, cond};
 ghost use Rattle.order.specs.Limits.{sizes as sizesOf, rows as rows_of, span as span_of, stack_need, count_need, within, zero_order, Checks};
 
@@ -7,7 +9,7 @@ use units::{ByteExp, refusal};
 
 // What is asked for: block sizes of 2^bmin to 2^bmax bytes, 2^0 to 2^smax sets, 1 to `ways` ways; `room`
 // entries in each stack, and at most `refs` references.
-#[derive(Drop)]
+#[derive(Clone, Copy)]
 pub struct Order {
     pub bmin: ByteExp,
     pub bmax: ByteExp,
@@ -18,7 +20,7 @@ pub struct Order {
 }
 
 // An order beside the answer number: zeros where the number is not 0.
-#[derive(Drop)]
+#[derive(Clone, Copy)]
 pub struct Checked {
     pub answer: u32,
     pub order: Order,

@@ -1,5 +1,6 @@
 // The printed output as bytes in a lent buffer, a line at a time (SCOPE, "Program, order lines and din lines"), and
 // the walk over the caches of the table.
+#![tactic(auto)]
 ghost use Rattle.std.specs.Prelude.{◌≡◌, ◌+◌, ◌≤◌, length, get_or};
 ghost use Rattle.printing.specs.Printed.{decimal_of, head_lines, line_at, refusal_line};
 ghost use Rattle.printing.specs.Forms.{filled, most, Puts, Prints};
@@ -15,7 +16,7 @@ use units::refusal::has_column;
 pub const LINE_MOST: usize = 128;
 
 // The cache whose line comes next, or that none does.
-#[derive(Drop)]
+#[derive(Clone, Copy)]
 pub struct Walk {
     pub over: bool,
     pub b: u32,

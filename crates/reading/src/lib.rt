@@ -1,5 +1,6 @@
 // What the sweep program decides: from a line's bytes and the state to the next state and the answer
 // (SCOPE, "Program, order lines and din lines"). Both tables are lent.
+#![tactic(auto)]
 ghost use Rattle.std.specs.Prelude.{◌≡◌, ◌+◌, min};
 ghost use Rattle.reading.specs.Reading.{desk, start as Reading·start, at_line};
 ghost use Rattle.reading.specs.Step.{lines_most, Steps, long_line, ended as Reading·ended};
@@ -24,21 +25,21 @@ pub const COUNT_ENTRIES: usize = 1920;
 pub const LINES_MOST: u64 = 4294967295;
 
 // What the order's lines said: its six numbers, in their order, and what it counts.
-#[derive(Drop)]
+#[derive(Clone, Copy)]
 pub struct Head {
     pub numbers: [u32; 6],
     pub kinds: Kinds,
 }
 
 // Lines of the trace, counted by what was done with them.
-#[derive(Drop)]
+#[derive(Clone, Copy)]
 pub struct Tally {
     pub skipped: u32,
     pub flushes: u32,
 }
 
 // How far the input is read.
-#[derive(Drop)]
+#[derive(Clone, Copy)]
 pub struct Reading {
     // Lines read so far; at a refusal, the number of its line.
     pub lines: u64,
@@ -53,7 +54,7 @@ pub struct Reading {
 
 // The next state, beside the answer number. Where that is not 0 the line next.lines is refused,
 // and a bad line of the trace at its column next.column.
-#[derive(Drop)]
+#[derive(Clone, Copy)]
 pub struct Step {
     pub answer: u32,
     pub next: Reading,

@@ -1,6 +1,7 @@
 // The stripper: of a list of addresses it keeps those whose reference misses in a direct-mapped cache
 // (SCOPE, "Strip"). The lent filter is that cache: entry i is the last block of set i plus one,
 // or zero where none came.
+#![tactic(auto)]
 ghost use Rattle.std.specs.Prelude.{◌≡◌, ◌^◌, ◌≤◌, ◌<◌, length};
 ghost use Rattle.lists.specs.Tests.{all_le};
 ghost use Rattle.strip.specs.Filter.{kept_from, Passable, Refers, Counts, Keeps, Empties};
@@ -11,7 +12,7 @@ use order::Order;
 use units::{Addr, ByteExp, refusal};
 
 // How many references were kept, beside the answer number: 0 where that is not 0.
-#[derive(Drop)]
+#[derive(Clone, Copy)]
 pub struct Stripped {
     pub answer: u32,
     pub kept: usize,

@@ -7,7 +7,7 @@ use feeding::Feeding;
 use libc::STDIN_FILENO;
 
 // The bytes that came next: the first `len` of the chunk, unless a read failed.
-#[derive(Drop)]
+#[derive(Clone, Copy)]
 struct More {
     failed: bool,
     // The input has no more.
@@ -16,7 +16,7 @@ struct More {
 }
 
 // How the input ended, unless a read failed: then what came before is not the whole input.
-#[derive(Drop)]
+#[derive(Clone, Copy)]
 pub(crate) struct Ended {
     pub failed: bool,
     pub feeding: Feeding,

@@ -1,6 +1,7 @@
 // The sweep program: reads an order and a trace from standard input, line by line, and prints the
 // misses of every cache of the order, or the refusal. What it decides is in the crate reading; here are
 // only reading and printing.
+#![tactic(auto)]
 use input::run;
 use libc::STDERR_FILENO;
 use output::{refused, table};

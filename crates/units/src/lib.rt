@@ -1,5 +1,7 @@
 // What is told apart (SCOPE, "The cache being counted"): byte addresses, block numbers and set numbers; exponents
 // in bytes and document 000's exponents in words. The refusal numbers are in refusal.rt.
+#![tactic(auto)]
+
 ghost use Rattle.std.specs.Prelude.{◌≡◌};
 ghost use Rattle.cache.specs.Cache.{block_of, set_of};
 ghost use Rattle.units.specs.Exponents.{bytes_of};
@@ -7,23 +9,23 @@ ghost use Rattle.units.specs.Exponents.{bytes_of};
 pub mod refusal;
 
 // A byte address, 0 to ffffffff (hex).
-#[derive(Drop)]
+#[derive(Clone, Copy)]
 pub struct Addr(pub u32);
 
 // The number of a block: an address divided by the block size.
-#[derive(Drop)]
+#[derive(Clone, Copy)]
 pub struct BlockNo(pub u32);
 
 // The number of a set: a block number modulo the number of sets.
-#[derive(Drop)]
+#[derive(Clone, Copy)]
 pub struct SetNo(pub u32);
 
 // A block size of 2^b bytes, by its exponent b. Only this is taken for a block size.
-#[derive(Drop)]
+#[derive(Clone, Copy)]
 pub struct ByteExp(pub u32);
 
 // Document 000's block size of 2^n words of 8 bytes, by its exponent n.
-#[derive(Drop)]
+#[derive(Clone, Copy)]
 pub struct WordExp(pub u32);
 
 impl Addr {

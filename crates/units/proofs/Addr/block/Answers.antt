@@ -5,20 +5,15 @@ use mathlib.Core.Path.{refl, sym}
 use native.Mathlib.Omega.{arith}
 use Rattle.lists.proofs.BitLaws.{shifted_out}
 use Rattle.cache.specs.Cache.{block_of}
-use Rattle.units.proofs.Addr.block.Statement.{statement}
-use Rattle.units.proofs.Addr.block.Tie as tie
+use Rattle.units.proofs.Addr.block.Goals as goal
 
-returns : tie.Need-returns
+pub returns-then-bits-lt32 : goal.returns-then-bits-lt32
 unfolding block_of
-returns c = refl
+returns-then-bits-lt32 c = refl
 
-returns-2 : tie.Need-returns-2
+pub returns-else-bits-lt32 : goal.returns-else-bits-lt32
 unfolding block_of
-returns-2 c =
-    let a = c.before.args in
+returns-else-bits-lt32 c =
+    let a = c.args in
     let small : a.self.0 < 4294967296 = omega arith in
     sym (shifted_out 32 a.b.0 small (omega arith))
-
--- closed by search
-pub block_spec : {M : Type 1} → statement M
-block_spec = tie.close (tie.spec (λ c. search rules) returns returns-2)

@@ -5,20 +5,15 @@ use mathlib.Core.Path.{refl, sym}
 use native.Mathlib.Omega.{arith}
 use Rattle.lists.proofs.BitLaws.{shifted_out}
 use Rattle.cache.specs.Cache.{block_of}
-use Rattle.units.proofs.BlockNo.wider.Statement.{statement}
-use Rattle.units.proofs.BlockNo.wider.Tie as tie
+use Rattle.units.proofs.BlockNo.wider.Goals as goal
 
-returns : tie.Need-returns
+pub returns-then-k-lt32 : goal.returns-then-k-lt32
 unfolding block_of
-returns c = refl
+returns-then-k-lt32 c = refl
 
-returns-2 : tie.Need-returns-2
+pub returns-else-k-lt32 : goal.returns-else-k-lt32
 unfolding block_of
-returns-2 c =
-    let a = c.before.args in
+returns-else-k-lt32 c =
+    let a = c.args in
     let small : a.self.0 < 4294967296 = omega arith in
     sym (shifted_out 32 a.k small (omega arith))
-
--- closed by search
-pub wider_spec : {M : Type 1} → statement M
-wider_spec = tie.close (tie.spec (λ c. search rules) returns returns-2)

@@ -1,0 +1,7 @@
+-- `Order::rows` meets its contract: smax and one more. Assumes nothing.
+use borrow.Author.Rules.{rules}
+use native.Mathlib.Omega.{arith}
+use Rattle.order.proofs.Order.rows.Goals as goal
+
+pub returns : goal.returns
+returns c = omega arith
