@@ -2,6 +2,7 @@
 // (SCOPE, "Strip"). The lent filter is that cache: entry i is the last block of set i plus one,
 // or zero where none came.
 #![tactic(auto)]
+
 ghost use Rattle.std.specs.Prelude.{◌≡◌, ◌^◌, ◌≤◌, ◌<◌, length};
 ghost use Rattle.lists.specs.Tests.{all_le};
 ghost use Rattle.strip.specs.Filter.{kept_from, Passable, Refers, Counts, Keeps, Empties};
@@ -103,7 +104,7 @@ fn count(list: &[u32], b: ByteExp, s: u32, filter: &mut [u32]) -> usize
 // The same, and each kept address goes to the output, which has room for all of them.
 fn keep(list: &[u32], b: ByteExp, s: u32, filter: &mut [u32], out: &mut [u32]) -> usize
     requires passable { Passable b.0 s filter.old }
-    requires list_in_bounds { length (kept_from b.0 s filter.old list.now) ≤ length out.old }
+    requires room { length (kept_from b.0 s filter.old list.now) ≤ length out.old }
     ensures { Keeps b.0 s list.now filter.old out.old result filter.new out.new }
 {
     let mut n: usize = 0;
