@@ -12,7 +12,7 @@ use borrow.Author.Tests.{ne_eqb}
 use lib.Dec.{T, lit<, lit≤}
 use lib.IntN.{pos}
 use lib.Pow.{pow-add, pow_pos, pow_mono, pow-lt, shl_lt}
-use lib.Ieee.{Float, fin, Format, binary32, binary64, prec, emax, low, up, down, size, round, mul, div, of_int, fits, hid, to_bits, of_bits, le}
+use lib.Ieee.{Float, nan, inf, fin, Format, binary32, binary64, prec, emax, low, up, down, size, round, mul, div, of_int, fits, hid, to_bits, of_bits, le}
 use lib.Ieee.Back.{round_whole}
 use lib.Ieee.Bits.{of_bits-to_bits}
 use lib.Ieee.Digits.{size-le}
@@ -34,6 +34,10 @@ crossed x y p q a b h k = rw (sym (mul-one x) ∙ h, sym (mul-one y) ∙ k) (sim
 
 div_whole : (f : Format) (x y : Float) (a b : ℕ) → 0 < b → HasValue x false a 1 → HasValue y false b 1 → div f x y ≡ round f false a b
 unfolding div
+div_whole f nan y a b B h k = elim h [ ]
+div_whole f (inf _) y a b B h k = elim h [ ]
+div_whole f (fin false m e) nan a b B h k = elim k [ ]
+div_whole f (fin false m e) (inf _) a b B h k = elim k [ ]
 div_whole f (fin true m e) y a b B h k = absurd (true≢false h.0)
 div_whole f (fin false m e) (fin true n d) a b B h k = absurd (true≢false k.0)
 div_whole f (fin false m e) (fin false n d) a b B h k =
@@ -49,6 +53,10 @@ multiplied x y p q a b c d h k = mul-mul-mul_comm x y c d ∙ ap₂ (λ (u v : �
 mul_values : (f : Format) (x y : Float) (a c b d : ℕ) → 0 < c → 0 < d → HasValue x false a c → HasValue y false b d
     → mul f x y ≡ round f false (a * b) (c * d)
 unfolding mul
+mul_values f nan y a c b d C D h k = elim h [ ]
+mul_values f (inf _) y a c b d C D h k = elim h [ ]
+mul_values f (fin false m e) nan a c b d C D h k = elim k [ ]
+mul_values f (fin false m e) (inf _) a c b d C D h k = elim k [ ]
 mul_values f (fin true m e) y a c b d C D h k = absurd (true≢false h.0)
 mul_values f (fin false m e) (fin true n g) a c b d C D h k = absurd (true≢false k.0)
 mul_values f (fin false m e) (fin false n g) a c b d C D h k =
@@ -59,6 +67,8 @@ mul_values f (fin false m e) (fin false n g) a c b d C D h k =
 
 pattern : (f : Format) (x : Float) (g : ℕ) → HasValue x false g (2 ^ low f) → to_bits f x ≡ 0 + (size g - prec f) * hid f + g / 2 ^ (size g - prec f)
 unfolding to_bits
+pattern f nan g h = elim h [ ]
+pattern f (inf _) g h = elim h [ ]
 pattern f (fin true m e) g h = absurd (true≢false h.0)
 pattern f (fin false m e) g h =
     ap (λ (z : ℕ). 0 + (size z - prec f) * hid f + z / 2 ^ (size z - prec f)) (ap (λ (z : ℕ). z / down e) h.1 ∙ mul-div_cancel g (down_pos e))

@@ -9,8 +9,8 @@ use order::Order;
 
 // In the `rows` depths from `base` on, one more at each s up to `shared`.
 pub(crate) fn bump(depths: &mut [u32], base: usize, rows: usize, shared: usize)
-    requires rows_in_bounds { base + rows ≤ length depths.old }
-    requires by_index { (s : ℕ) → s < rows → get_or depths.old (base + s) 0 < count_most }
+    requires long { base + rows ≤ length depths.old }
+    requires raisable { (s : ℕ) → s < rows → get_or depths.old (base + s) 0 < count_most }
     ensures { Bumped base rows shared depths.old depths.new }
 {
     let mut end = rows;
@@ -164,8 +164,8 @@ pub(crate) fn tops_over(counts: &[u32], ways: usize, rows: usize, taken: u32) ->
 
 // In each of the first `rows` rows, one more at depth 0.
 pub(crate) fn raise_tops(counts: &mut [u32], ways: usize, rows: usize)
-    requires ways_in_bounds { (rows * ways ≤ length counts.old) × (1 ≤ ways) }
-    requires by_index { (s : ℕ) → s < rows → get_or counts.old (s * ways) 0 < count_most }
+    requires grid { (rows * ways ≤ length counts.old) × (1 ≤ ways) }
+    requires raisable { (s : ℕ) → s < rows → get_or counts.old (s * ways) 0 < count_most }
     ensures { counts.new ≡ raised_rows ways 0 (λ (s : ℕ). 0) rows counts.old }
 {
     let mut s = 0usize;

@@ -1,5 +1,7 @@
 // The opened order, and what its functions hand back (SCOPE, "The order's numbers" and "Questions"). Its functions
 // stand in opening.rt, references.rt, flushing.rt, questions.rt and refusing.rt. Both tables are lent: slices of 32-bit numbers.
+#![tactic(auto)]
+
 use order::Order;
 
 mod counting;
@@ -12,7 +14,7 @@ mod references;
 mod refusing;
 
 // The opened order: the order's numbers, the references taken, and the used length of each stack.
-#[derive(Drop)]
+#[derive(Clone, Copy)]
 pub struct Opened {
     pub order: Order,
     pub taken: u32,
@@ -20,14 +22,14 @@ pub struct Opened {
 }
 
 // The state handed back, beside the answer number.
-#[derive(Drop)]
+#[derive(Clone, Copy)]
 pub struct Reply {
     pub state: Opened,
     pub answer: u32,
 }
 
 // How often a cache missed, beside the answer number: 0 where that is not 0. The state is as it was handed in.
-#[derive(Drop)]
+#[derive(Clone, Copy)]
 pub struct Counted {
     pub state: Opened,
     pub answer: u32,
@@ -35,14 +37,14 @@ pub struct Counted {
 }
 
 // The miss ratio and the traffic ratio of a cache.
-#[derive(Drop)]
+#[derive(Clone, Copy)]
 pub struct Ratios {
     pub miss: f64,
     pub traffic: f64,
 }
 
 // Both ratios, beside the answer number: zeros where that is not 0. The state is as it was handed in.
-#[derive(Drop)]
+#[derive(Clone, Copy)]
 pub struct Rated {
     pub state: Opened,
     pub answer: u32,
