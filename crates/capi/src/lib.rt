@@ -2,6 +2,7 @@
 // crosses as a pointer and then a length; a state, as a pointer to 15 numbers: bmin, bmax, smax, ways, room,
 // refs, the references taken, and the used length of each stack. include/kkaeduron.h declares these functions.
 #![tactic(auto)]
+
 ghost use Rattle.std.specs.Prelude.{ℕ, ◌≡◌, List};
 ghost use Rattle.cache.specs.Cache.{ref, flush};
 ghost use Rattle.strip.specs.Strip.{Strips};
