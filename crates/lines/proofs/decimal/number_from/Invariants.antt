@@ -1,0 +1,24 @@
+-- `number_from` meets its contract. The loop's invariant: after `i - from` digits, worth `value`, both the test for digits and the value
+-- go on from `i`. Its value is below that power of 10, so it fits. Assumes nothing.
+use Prim.Native.Nat.{ℕ, suc, ◌+◌, ◌-◌, ◌*◌, ◌^◌, ◌≤◌, ◌<◌, min}
+use mathlib.Core.Path.{◌≡◌, refl, sym, ap, ◌∙◌}
+use mathlib.Core.List.{List}
+use native.Mathlib.Omega.{arith}
+use lib.ListN.{length, drop, get_or}
+use borrow.Author.Rules.{rules}
+use Rattle.lists.proofs.BitLaws.{numeral_more, numeral_fits}
+use Rattle.lists.proofs.CompareLaws.{range_yes, range_below, range_above}
+use Rattle.lines.specs.OrderLine.{all_decimal, decimal}
+use Rattle.lines.specs.Parts.{number_of}
+use Rattle.lines.specs.declared.decimal.Number.TheVariants.{Value}
+use Rattle.lines.proofs.OrderLaws.{digits_more, digits_other, digits_end, decimal_more, decimal_end, number_none, number_long, number_zero, number_zeros, number_other, number_right}
+use Rattle.lines.proofs.decimal.number_from.Given as goal
+
+abbrev pub invariant-loop-i : goal.invariant-loop-i
+invariant-loop-i l =
+    (l.from ≤ l.i) × (l.i ≤ length l.line) × (l.value < 10 ^ (l.i - l.from))
+    × (all_decimal (drop l.from l.line) ≡ all_decimal (drop l.i l.line))
+    × (decimal 0 (drop l.from l.line) ≡ decimal l.value (drop l.i l.line))
+
+abbrev pub decreases-loop-i : goal.decreases-loop-i
+decreases-loop-i l = length l.line - l.i
