@@ -1,6 +1,7 @@
 // The readers of one line, given without its LF: of a trace line and of an order line (SCOPE,
 // "Program, order lines and din lines").
 #![tactic(auto)]
+
 ghost use Rattle.std.specs.Prelude.{◌≡◌, ◌+◌, ◌≤◌};
 ghost use Rattle.lines.specs.TraceLine.{bad_at, labelled, trace_line_of};
 ghost use Rattle.lines.specs.OrderLine.{order_line_of, counts_kind};

@@ -1,15 +1,12 @@
 -- `trace_line` meets its contract: each stage that the code has passed takes the definition one stage on, and at each `return` the
 -- stage that is reached decides. Assumes nothing.
-use Prim.Native.Nat.{ℕ, ◌+◌, ◌-◌, ◌<◌}
+use Prim.Native.Nat.{ℕ, ◌+◌, ◌-◌}
 use mathlib.Core.Path.{◌≡◌, sym, ◌∙◌}
-use mathlib.Core.Bool.{true}
 use mathlib.Core.List.{List}
 use native.Mathlib.Omega.{arith}
 use lib.Arith.{lt_of_le-ne}
-use lib.ListN.{length, drop, get_or}
-use borrow.Author.Rules.{rules}
+use lib.ListN.{drop, get_or}
 use Rattle.lists.proofs.CompareLaws.{range_yes, range_below, range_above}
-use Rattle.lines.specs.Bytes.{between}
 use Rattle.lines.specs.TraceLine.{in_address, trace_line_of}
 use Rattle.lines.proofs.TraceLaws.{too_long_lem, line_empty, line_label_wrong, start_within, line_no_gap, line_no_address, line_address, address_end, address_blank, address_wrong}
 use Rattle.lines.proofs.SaidLaws.{trace_says}
@@ -39,11 +36,13 @@ returns-then-len-eq0 c = trace_says (line_empty _ c.if-len-gt-LONGEST.false c.if
 
 pub returns-then-label-lt48 : goal.returns-then-label-lt48
 returns-then-label-lt48 c =
-    trace_says (line_label_wrong _ (omega arith) (omega arith) (range_below 48 52 _ c.if-label-lt48.true) ∙ sym c.bad_at-then-label-lt48.ensures)
+    let wrong = range_below 48 52 _ c.if-label-lt48.true in
+    trace_says (line_label_wrong _ (omega arith) (omega arith) wrong ∙ sym c.bad_at-then-label-lt48.ensures)
 
 pub returns-then-label-gt52 : goal.returns-then-label-gt52
 returns-then-label-gt52 c =
-    trace_says (line_label_wrong _ (omega arith) (omega arith) (range_above 48 52 _ c.if-label-gt52.true) ∙ sym c.bad_at-then-label-gt52.ensures)
+    let wrong = range_above 48 52 _ c.if-label-gt52.true in
+    trace_says (line_label_wrong _ (omega arith) (omega arith) wrong ∙ sym c.bad_at-then-label-gt52.ensures)
 
 pub returns-then-start-eq1 : goal.returns-then-start-eq1
 returns-then-start-eq1 c =

@@ -1,11 +1,10 @@
 -- `number_from` meets its contract. The loop's invariant: after `i - from` digits, worth `value`, both the test for digits and the value
 -- go on from `i`. Its value is below that power of 10, so it fits. Assumes nothing.
 use Prim.Native.Nat.{ℕ, suc, ◌+◌, ◌-◌, ◌*◌, ◌^◌, ◌≤◌, ◌<◌, min}
-use mathlib.Core.Path.{◌≡◌, refl, sym, ap, ◌∙◌}
+use mathlib.Core.Path.{◌≡◌, sym, ap, ◌∙◌}
 use mathlib.Core.List.{List}
 use native.Mathlib.Omega.{arith}
 use lib.ListN.{length, drop, get_or}
-use borrow.Author.Rules.{rules}
 use Rattle.lists.proofs.BitLaws.{numeral_more, numeral_fits}
 use Rattle.lists.proofs.CompareLaws.{range_yes, range_below, range_above}
 use Rattle.lines.specs.OrderLine.{all_decimal, decimal}
@@ -19,7 +18,8 @@ fits : (count value digit : ℕ) → value < 10 ^ count → digit < 10 → count
 fits count value digit below small h = numeral_fits 10 10 count value digit below small h
 
 -- once the loop has ended: the number has the value
-whole : (line : List ℕ) (from i value : ℕ) → from < length line → length line - from ≤ 10 → (get_or line from 0 ≡ 48 → ⊥) → length line ≤ i
+whole : (line : List ℕ) (from i value : ℕ)
+    → from < length line → length line - from ≤ 10 → (get_or line from 0 ≡ 48 → ⊥) → length line ≤ i
     → all_decimal (drop from line) ≡ all_decimal (drop i line) → decimal 0 (drop from line) ≡ decimal value (drop i line)
     → number_of (drop from line) ≡ Value (min value 4294967295)
 whole line from i value some short first ended digits worth =

@@ -1,17 +1,9 @@
 -- `number_from` meets its contract. The loop's invariant: after `i - from` digits, worth `value`, both the test for digits and the value
 -- go on from `i`. Its value is below that power of 10, so it fits. Assumes nothing.
-use Prim.Native.Nat.{ℕ, suc, ◌+◌, ◌-◌, ◌*◌, ◌^◌, ◌≤◌, ◌<◌, min}
-use mathlib.Core.Path.{◌≡◌, refl, sym, ap, ◌∙◌}
-use mathlib.Core.List.{List}
-use native.Mathlib.Omega.{arith}
-use lib.ListN.{length, drop, get_or}
-use borrow.Author.Rules.{rules}
-use Rattle.lists.proofs.BitLaws.{numeral_more, numeral_fits}
-use Rattle.lists.proofs.CompareLaws.{range_yes, range_below, range_above}
+use Prim.Native.Nat.{◌-◌, ◌^◌, ◌≤◌, ◌<◌}
+use mathlib.Core.Path.{◌≡◌}
+use lib.ListN.{length, drop}
 use Rattle.lines.specs.OrderLine.{all_decimal, decimal}
-use Rattle.lines.specs.Parts.{number_of}
-use Rattle.lines.specs.declared.decimal.Number.TheVariants.{Value}
-use Rattle.lines.proofs.OrderLaws.{digits_more, digits_other, digits_end, decimal_more, decimal_end, number_none, number_long, number_zero, number_zeros, number_other, number_right}
 use Rattle.lines.proofs.decimal.number_from.Given as goal
 
 abbrev pub invariant-loop-i : goal.invariant-loop-i

@@ -1,10 +1,7 @@
 -- `starts_with` meets its contract. The loop's invariant: the line starts with the name if it does so from `i` on. Assumes nothing.
-use Prim.Native.Nat.{◌-◌, ◌≤◌}
-use mathlib.Core.Path.{◌≡◌, refl, sym, ◌∙◌}
+use mathlib.Core.Path.{sym, ◌∙◌}
 use native.Mathlib.Omega.{arith}
-use lib.ListN.{length, drop}
 use borrow.Author.Rules.{rules}
-use Rattle.lines.specs.OrderLine.{starts_with}
 use Rattle.lines.proofs.OrderLaws.{starts_more, starts_other, starts_short, starts_end}
 use Rattle.lines.proofs.decimal.starts_with.Goals as goal
 

@@ -1,10 +1,7 @@
 -- `gap_end` meets its contract. The loop's invariant: the blanks from `from` on end where those from `i` on do. Assumes nothing.
-use Prim.Native.Nat.{◌+◌, ◌-◌, ◌≤◌}
-use mathlib.Core.Path.{◌≡◌, refl, sym, ◌∙◌}
+use mathlib.Core.Path.{sym, ◌∙◌}
 use native.Mathlib.Omega.{arith}
-use lib.ListN.{length, drop}
 use borrow.Author.Rules.{rules}
-use Rattle.lines.specs.Parts.{blanks}
 use Rattle.lines.proofs.TraceLaws.{blanks_more, blanks_stop, blanks_end}
 use Rattle.lines.proofs.hex.gap_end.Goals as goal
 

@@ -1,12 +1,8 @@
 -- `gap_end` meets its contract. The loop's invariant: the blanks from `from` on end where those from `i` on do. Assumes nothing.
 use Prim.Native.Nat.{◌+◌, ◌-◌, ◌≤◌}
-use mathlib.Core.Path.{◌≡◌, refl, sym, ◌∙◌}
-use native.Mathlib.Omega.{arith}
+use mathlib.Core.Path.{◌≡◌}
 use lib.ListN.{length, drop}
-use borrow.Author.Rules.{rules}
-use borrow.Author.Tests.{not-true, not-false}
 use Rattle.lines.specs.Parts.{blanks}
-use Rattle.lines.proofs.TraceLaws.{blanks_more, blanks_stop, blanks_end}
 use Rattle.lines.proofs.hex.gap_end.Given as goal
 
 abbrev pub invariant-loop-i : goal.invariant-loop-i

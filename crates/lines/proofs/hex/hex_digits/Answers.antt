@@ -1,18 +1,15 @@
 -- `hex_digits` meets its contract. The loop's invariant: after `i - from` digits, worth `value`, the address goes on from `i`. Its value
 -- is below that power of 16, so it fits. Assumes nothing.
 use Prim.Native.Nat.{ℕ, suc, ◌+◌, ◌-◌, ◌*◌, ◌^◌, ◌≤◌, ◌<◌}
-use mathlib.Core.Path.{◌≡◌, refl, ap, ◌∙◌}
-use mathlib.Core.Bool.{Bool, true, ◌&&◌, and-false}
+use mathlib.Core.Path.{◌≡◌, ◌∙◌}
+use mathlib.Core.Bool.{true}
 use native.Mathlib.Omega.{arith}
-use lib.Dec.{ltb}
-use lib.ListN.{drop, get_or}
+use lib.ListN.{get_or}
 use borrow.Author.Rules.{rules}
-use borrow.Author.Tests.{le-ltb}
 use Rattle.lists.proofs.BitLaws.{numeral_more, numeral_fits}
 use Rattle.lines.specs.Bytes.{is_hex, hex_value}
 use Rattle.lines.specs.Parts.{hex_or16}
-use Rattle.lines.specs.TraceLine.{in_address}
-use Rattle.lines.proofs.ByteLaws.{digit_of_small, no_digit_of_large}
+use Rattle.lines.proofs.ByteLaws.{digit_of_small}
 use Rattle.lines.proofs.TraceLaws.{address_more}
 use Rattle.lines.proofs.hex.hex_digits.Goals as goal
 
@@ -47,4 +44,3 @@ loop-i-preserved c =
       λ label. rw (more, told.1)
           (l.invariant.3 label ∙ address_more label n l.value (l.i + 1) _ l.i (omega arith) told.0 (omega arith)),
     )
-
