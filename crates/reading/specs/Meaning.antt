@@ -1,6 +1,6 @@
 -- What a line of the trace comes to under the kinds that the order counts, and what such lines come to together: what they give, in order,
 -- and their tally (SCOPE, "Program, order lines and din lines"). Assumes nothing.
-use Rattle.std.specs.Prelude.{ℕ, ◌+◌, cond, List, [], ◌∷◌, ◌++◌}
+use Rattle.std.specs.Prelude.{ℕ, cond, List, [], ◌∷◌, ◌++◌}
 use Rattle.lists.specs.Sums.{total}
 use Rattle.cache.specs.Cache.{Given, ref, flush, flushed}
 use Rattle.lines.specs.declared.Kinds.{Kinds}

@@ -1,6 +1,7 @@
 // What the sweep program decides: from a line's bytes and the state to the next state and the answer
 // (SCOPE, "Program, order lines and din lines"). Both tables are lent.
 #![tactic(auto)]
+
 ghost use Rattle.std.specs.Prelude.{◌≡◌, ◌+◌, min};
 ghost use Rattle.reading.specs.Reading.{desk, start as Reading·start, at_line};
 ghost use Rattle.reading.specs.Step.{lines_most, Steps, long_line, ended as Reading·ended};
