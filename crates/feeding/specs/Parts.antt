@@ -1,5 +1,5 @@
 -- What a private function of the crate promises. Assumes nothing.
-use Rattle.std.specs.Prelude.{ℕ, ◌+◌, ◌-◌, ◌≤◌, ◌<◌, ◌≡◌, List, length, drop, get_or}
+use Rattle.std.specs.Prelude.{ℕ, ◌+◌, ◌≤◌, ◌<◌, ◌≡◌, List, length, drop, get_or}
 use Rattle.std.proofs.Math.Seq.{paste}
 use Rattle.feeding.specs.Lines.{lf}
 

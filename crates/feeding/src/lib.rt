@@ -1,6 +1,7 @@
 // The program's input as it comes: slices of bytes, one after the other, cut into lines, and each line given to
 // the reader (SCOPE, "Program, order lines and din lines"). Both tables are lent.
 #![tactic(auto)]
+
 ghost use Rattle.std.specs.Prelude.{◌≡◌, ◌≤◌, length};
 ghost use Rattle.feeding.specs.Feeding.{start as Feeding·start, Feeds, Ends};
 ghost use Rattle.feeding.specs.Parts.{Copied};
