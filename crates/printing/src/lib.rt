@@ -1,6 +1,7 @@
 // The printed output as bytes in a lent buffer, a line at a time (SCOPE, "Program, order lines and din lines"), and
 // the walk over the caches of the table.
 #![tactic(auto)]
+
 ghost use Rattle.std.specs.Prelude.{◌≡◌, ◌+◌, ◌≤◌, length, get_or};
 ghost use Rattle.printing.specs.Printed.{decimal_of, head_lines, line_at, refusal_line};
 ghost use Rattle.printing.specs.Forms.{filled, most, Puts, Prints};

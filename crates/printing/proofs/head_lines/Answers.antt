@@ -8,9 +8,7 @@ use Rattle.reading.specs.declared.Tally.{Tally}
 use Rattle.printing.specs.Printed.{decimal_of, fields_after, head_lines}
 use Rattle.printing.specs.Forms.{filled, most, line_most}
 use Rattle.printing.proofs.FormLaws.{prints_none, prints_form}
-use borrow.Author.Rules.{rules}
-use Rattle.printing.proofs.head_lines.Statement.{statement}
-use Rattle.printing.proofs.head_lines.Tie as tie
+use Rattle.printing.proofs.head_lines.Goals as goal
 
 abbrev head_form : List ℕ
 head_form = text "edition=#\nrefs=#\nskipped=#\nflushes=#\n"
@@ -34,22 +32,15 @@ head_most : most head_form ≤ line_most
 unfolding most
 head_most = omega arith
 
-returns : tie.Need-returns
-returns c = let a = c.before.before.args in prints_none a.out.now c.if1.true (head_lines a.refs a.tally)
+pub returns-then-out-lt-LINE_MOST : goal.returns-then-out-lt-LINE_MOST
+returns-then-out-lt-LINE_MOST c = let a = c.args in prints_none a.out.now c.if-out-lt-LINE_MOST.true (head_lines a.refs a.tally)
 
-fill-requires : tie.Need-fill-requires
-fill-requires c κs = let wide = c.before.before.before.if1.false in omega (arith, head_most)
+pub fill-requires : goal.fill-requires
+fill-requires c = let wide = c.if-out-lt-LINE_MOST.false in omega (arith, head_most)
 
-returns-2 : tie.Need-returns-2
-returns-2 c =
-    let a = c.before.before.before.before.before.before.before.before.args in
-    let k = c.before.before.fill in
-    prints_form a.out.now c.before.before.before.before.before.before.if1.false head_form (numbers_of a.refs a.tally)
-    (head_lines a.refs a.tally) (head_form_lem a.refs a.tally) head_most k.result k.new.0 k.ensures
-
--- closed by search
-pub head_lines_spec : {M : Type 1} → statement M
-head_lines_spec =
-    tie.close
-    (tie.spec
-    returns (λ c. search rules) (λ c. search rules) (λ c. search rules) (λ c. search rules) fill-requires (λ c. search rules) returns-2)
+pub returns : goal.returns
+returns c =
+    let a = c.args in
+    let k = c.fill in
+    prints_form a.out.now c.if-out-lt-LINE_MOST.false head_form (numbers_of a.refs a.tally)
+    (head_lines a.refs a.tally) (head_form_lem a.refs a.tally) head_most k.result k.new.out k.ensures
