@@ -1,12 +1,11 @@
 -- What a world holds after `past` was taken: each block size is what the machine of one size makes of its events. A taking keeps it so.
 -- Assumes nothing.
-use Prim.Native.Nat.{ℕ, ◌+◌, ◌-◌, ◌*◌, ◌≤◌, ◌<◌}
+use Prim.Native.Nat.{ℕ, ◌+◌, ◌*◌, ◌≤◌, ◌<◌}
 use mathlib.Core.Path.{◌≡◌, refl, sym, ap, ap₂, ◌∙◌}
 use mathlib.Core.List.{List, [], ◌∷◌, ◌++◌}
 use native.Mathlib.Omega.{arith}
 use lib.ListN.{length, take, drop, get_or}
 use Rattle.lists.specs.Runs.{after}
-use Rattle.lists.specs.Sums.{total}
 use Rattle.lists.specs.Tables.{zeroed}
 use Rattle.lists.specs.Tests.{All≤}
 use Rattle.lists.proofs.PartLaws.{row_in}

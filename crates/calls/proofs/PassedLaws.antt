@@ -8,7 +8,6 @@ use lib.Dec.{eqb, ltb}
 use lib.ListN.{length, drop}
 use borrow.Author.Tests.{le-ltb}
 use Rattle.lists.specs.Runs.{after, any_on}
-use Rattle.lists.specs.Sums.{total}
 use Rattle.lists.proofs.TestLaws.{none_first, any_not, any_none_of}
 use Rattle.cache.specs.Cache.{Given, ref, flush, referred}
 use Rattle.cache.proofs.GivenLaws.{touches_one}

@@ -1,6 +1,6 @@
 -- `clear` meets its contract: after i turns the first i entries are zero and the others as they were. The loop ends at n or at the
 -- table's end, and past that end nothing is left to zero. Assumes nothing.
-use Prim.Native.Nat.{ℕ, ◌≤◌, ◌-◌}
+use Prim.Native.Nat.{ℕ, ◌≤◌}
 use mathlib.Core.Path.{◌≡◌, refl, ap, ◌∙◌}
 use mathlib.Core.List.{List}
 use native.Mathlib.Omega.{arith}

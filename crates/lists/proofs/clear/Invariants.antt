@@ -1,14 +1,10 @@
 -- `clear` meets its contract: after i turns the first i entries are zero and the others as they were. The loop ends at n or at the
 -- table's end, and past that end nothing is left to zero. Assumes nothing.
 use Prim.Native.Nat.{ℕ, ◌≤◌, ◌-◌}
-use mathlib.Core.Path.{◌≡◌, refl, ap, ◌∙◌}
+use mathlib.Core.Path.{◌≡◌}
 use mathlib.Core.List.{List}
-use mathlib.Core.Logic.{⊎_elim}
-use native.Mathlib.Omega.{arith}
-use lib.ListN.{length, set, length-set}
-use borrow.Author.Rules.{rules}
+use lib.ListN.{length}
 use Rattle.lists.specs.Tables.{zeroed}
-use Rattle.lists.proofs.ZeroLaws.{zeroed_more, zeroed_past}
 use Rattle.lists.proofs.clear.Given as goal
 
 pub record Zeroing (t₀ : List ℕ) (n end : ℕ) (t : List ℕ) (i : ℕ) : Type 0 where

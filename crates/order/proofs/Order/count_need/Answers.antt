@@ -2,7 +2,6 @@
 use mathlib.Core.Path.{sym, ap, ap₂, ◌∙◌}
 use mathlib.Core.Bool.{Bool, cond, not}
 use Prim.Native.Nat.{◌*◌}
-use borrow.Author.Rules.{rules}
 use native.Mathlib.Omega.{arith}
 use Rattle.order.specs.Limits.{count_need}
 use Rattle.order.proofs.LimitLaws.{within_no, within_test, within_yes, needs_small, need_spans}

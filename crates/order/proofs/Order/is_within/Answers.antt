@@ -1,5 +1,4 @@
 -- `Order::is_within` meets its contract: each `return` has the test that fails, and at the last none does. Assumes nothing.
-use borrow.Author.Rules.{rules}
 use mathlib.Core.Path.{sym}
 use native.Mathlib.Omega.{arith}
 use Rattle.lists.proofs.TestLaws.{all_yes, all_not}

@@ -1,5 +1,4 @@
 -- `Order::new` meets its contract: the test picks the case, of the answer and of the order alike. Assumes nothing.
-use borrow.Author.Rules.{rules}
 use mathlib.Core.Path.{sym, ap, ◌∙◌}
 use mathlib.Core.Bool.{Bool, cond, not}
 use Rattle.units.specs.Refusals.{outside_limits}

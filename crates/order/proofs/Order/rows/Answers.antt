@@ -1,5 +1,4 @@
 -- `Order::rows` meets its contract: smax and one more. Assumes nothing.
-use borrow.Author.Rules.{rules}
 use native.Mathlib.Omega.{arith}
 use Rattle.order.proofs.Order.rows.Goals as goal
 

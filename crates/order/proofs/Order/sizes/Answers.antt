@@ -1,5 +1,4 @@
 -- `Order::sizes` meets its contract: one where bmax is below bmin, as the difference of the definition says. Assumes nothing.
-use borrow.Author.Rules.{rules}
 use native.Mathlib.Omega.{arith}
 use Rattle.order.proofs.Order.sizes.Goals as goal
 

@@ -1,7 +1,6 @@
 -- `Order::span` meets its contract: a number of 32 bits and one more, times a number of 32 bits, fits 64. Assumes nothing.
 use Prim.Native.Nat.{ℕ, ◌*◌}
 use mathlib.Core.Path.{ap}
-use borrow.Author.Rules.{rules}
 use native.Mathlib.Omega.{arith}
 use Rattle.lists.proofs.BitLaws.{product_fits}
 use Rattle.order.proofs.Order.span.Goals as goal

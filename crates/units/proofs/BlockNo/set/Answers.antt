@@ -1,5 +1,4 @@
 -- `BlockNo::set` meets its contract: a one shifted by s places is 2^s, and modulo 2^32 and more a number of 32 bits stays. Assumes nothing.
-use borrow.Author.Rules.{rules}
 use mathlib.Core.Path.{◌≡◌, sym, ap}
 use Prim.Native.Nat.{ℕ, ◌*◌, ◌%◌, ◌^◌, ◌<◌}
 use native.Mathlib.Omega.{arith}

@@ -1,5 +1,4 @@
 -- `BlockNo::wider` meets its contract: a shift divides by the power, and shifts by 32 places and more leave nothing. Assumes nothing.
-use borrow.Author.Rules.{rules}
 use Prim.Native.Nat.{◌<◌}
 use mathlib.Core.Path.{refl, sym}
 use native.Mathlib.Omega.{arith}
