@@ -1,10 +1,10 @@
-// Standard input, in chunks, given to the reader up to the end or the first refusal.
+// A reader, in chunks, given to the machine up to the end or the first refusal.
 ghost use Rattle.std.specs.Prelude.{◌≡◌, ◌<◌, length};
 ghost use Rattle.reading.specs.Tables.{stack_entries, count_entries};
 ghost use Rattle.sweep.specs.Run.{Came, Ran};
 
 use feeding::Feeding;
-use libc::STDIN_FILENO;
+use std::io::Read;
 
 // The bytes that came next: the first `len` of the chunk, unless a read failed.
 #[derive(Clone, Copy)]
@@ -23,19 +23,17 @@ pub(crate) struct Ended {
 }
 
 // Reads once. At the end of the input, a line that has begun gets the LF that it lacks.
-fn read_more(chunk: &mut [u8], begun: bool) -> More
+fn read_more<R: Read>(input: &mut R, chunk: &mut [u8], begun: bool) -> More
     requires { 0 < length chunk.old }
     ensures { Came begun chunk.new result }
 {
-    let got = libc::read(STDIN_FILENO, chunk);
-    if got < 0 {
+    let Ok(len) = input.read(chunk) else {
         return More {
             failed: true,
             last: true,
             len: 0,
         };
-    }
-    let len = io::count(got, chunk);
+    };
     if len != 0 {
         return More {
             failed: false,
@@ -59,14 +57,19 @@ fn read_more(chunk: &mut [u8], begun: bool) -> More
 }
 
 // All bytes, up to the end or the first refusal. It ends: every byte takes from those that an input may still have.
-pub(crate) fn run(chunk: &mut [u8], stacks: &mut [u32], counts: &mut [u32]) -> Ended
+pub(crate) fn run<R: Read>(
+    input: &mut R,
+    chunk: &mut [u8],
+    stacks: &mut [u32],
+    counts: &mut [u32],
+) -> Ended
     requires { (0 < length chunk.old) × (length stacks.old ≡ stack_entries) × (length counts.old ≡ count_entries) }
     ensures { Ran stacks.old counts.old result stacks.new counts.new }
 {
     let mut feeding = Feeding::start();
     loop {
         let begun = feeding.len != 0;
-        let came = read_more(chunk, begun);
+        let came = read_more(input, chunk, begun);
         if came.failed {
             return Ended {
                 failed: true,

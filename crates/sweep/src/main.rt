@@ -2,22 +2,23 @@
 // misses of every cache of the order, or the refusal. What it decides is in the crate reading; here are
 // only reading and printing.
 #![tactic(auto)]
+
 use input::run;
-use libc::STDERR_FILENO;
 use output::{refused, table};
 use reading::{COUNT_ENTRIES, STACK_ENTRIES};
+use std::io::Write;
 
 mod input;
 mod output;
 
-fn main() {
+fn main(rt: HostRuntime) {
     let mut stacks = [0u32; STACK_ENTRIES];
     let mut counts = [0u32; COUNT_ENTRIES];
     let mut chunk = [0u8; 65536];
-    let ended = run(&mut chunk, &mut stacks, &mut counts);
+    let ended = run(&mut rt.stdin(), &mut chunk, &mut stacks, &mut counts);
     if ended.failed {
-        io::write_all(
-            STDERR_FILENO,
+        tell(
+            &mut rt.stderr(),
             b"sweep: standard input could not be read, so no table is printed\n",
         );
         return;
@@ -26,18 +27,23 @@ fn main() {
     let reading = feeding.reading;
     let answer = feeding.answer;
     if answer == 0 {
-        if !table(reading, &counts) {
-            io::write_all(
-                STDERR_FILENO,
+        if !table(&mut rt.stdout(), reading, &counts) {
+            tell(
+                &mut rt.stderr(),
                 b"sweep: standard output could not be written, so the table is not whole\n",
             );
         }
     } else {
-        if !refused(answer, reading.lines, reading.column) {
-            io::write_all(
-                STDERR_FILENO,
+        if !refused(&mut rt.stdout(), answer, reading.lines, reading.column) {
+            tell(
+                &mut rt.stderr(),
                 b"sweep: standard output could not be written, so the refusal is not whole\n",
             );
         }
     }
+}
+
+// Where standard error cannot be written either, nothing is left to tell.
+fn tell<W: Write>(errors: &mut W, words: &[u8]) {
+    let _ = errors.write_all(words);
 }

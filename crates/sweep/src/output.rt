@@ -1,21 +1,21 @@
 // The table or the refusal, written a line at a time: each goes out in one write, and the first that fails ends it.
-use libc::STDOUT_FILENO;
 use printing::{LINE_MOST, Walk, cache_line, head_lines, refusal_line};
 use reading::Reading;
+use std::io::Write;
 
 // The head, then the line of each cache. A question that is refused would put no line; none is, as `demand_2_program` says.
-pub(crate) fn table(reading: Reading, counts: &[u32]) -> bool {
+pub(crate) fn table<W: Write>(output: &mut W, reading: Reading, counts: &[u32]) -> bool {
     let mut out = [0u8; LINE_MOST];
     let opened = reading.opened;
     let order = opened.order;
     let head = head_lines(opened.taken, reading.tally, &mut out);
-    if !io::write_all(STDOUT_FILENO, &out[..head]) {
+    if output.write_all(&out[..head]).is_err() {
         return false;
     }
     let mut at = Walk::first(order);
     while !at.over {
         let n = cache_line(at, opened, counts, &mut out);
-        if !io::write_all(STDOUT_FILENO, &out[..n]) {
+        if output.write_all(&out[..n]).is_err() {
             return false;
         }
         at = at.next(order);
@@ -23,8 +23,8 @@ pub(crate) fn table(reading: Reading, counts: &[u32]) -> bool {
     true
 }
 
-pub(crate) fn refused(answer: u32, line: u64, column: u32) -> bool {
+pub(crate) fn refused<W: Write>(output: &mut W, answer: u32, line: u64, column: u32) -> bool {
     let mut out = [0u8; LINE_MOST];
     let n = refusal_line(answer, line, column, &mut out);
-    io::write_all(STDOUT_FILENO, &out[..n])
+    output.write_all(&out[..n]).is_ok()
 }
