@@ -4,7 +4,7 @@ import subprocess
 import sys
 
 ROOT = pathlib.Path(__file__).resolve().parent.parent
-BUILT = ROOT / "target/bin/sweep"
+BUILT = ROOT / "crates/sweep/out/sweep"
 SIMULATOR = 'exec "%s" "%s" sweep' % (sys.executable, ROOT / "tests/simulator.py")
 
 

@@ -339,7 +339,7 @@ class Sweep(unittest.TestCase):
         (copy / "input").write_bytes(WORKED)
         program = self.program.read_text()
         for rt, status, said in [
-            ("echo rt: lists proved; sleep 1; mkdir -p target/bin; cp %s target/bin/sweep" % self.program, 0, "  lists proved\n"),
+            ("echo rt: lists proved; sleep 1; mkdir -p out; cp %s out/sweep" % self.program, 0, "  lists proved\n"),
             ("echo it cannot be; exit 1", 3, "build.log ends:\n  it cannot be\n"),
         ]:
             standin.script(self.folder / "rt", rt)
@@ -350,7 +350,7 @@ class Sweep(unittest.TestCase):
             self.assertIn(said, ended.stderr.decode())
             if status == 0:
                 self.assertEqual(ended.stdout, simulator.sweep(WORKED))
-                (copy / "target/bin/sweep").unlink()
+                (copy / "crates/sweep/out/sweep").unlink()
         self.assertEqual(self.program.read_text(), program)
 
     @unittest.skipUnless(standin.built_runs(), "the program is not built, or cannot be run here")

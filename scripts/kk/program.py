@@ -12,7 +12,7 @@ from kk import refusals
 from kk.table import Malformed, Table
 
 ROOT = pathlib.Path(__file__).resolve().parent.parent.parent
-PROGRAM = ROOT / "target/bin/sweep"
+PROGRAM = ROOT / "crates/sweep/out/sweep"
 WHOLE, REFUSED, NO_ANSWER = 0, 1, 3  # argparse exits with 2 where a script is called wrongly
 CHUNK = 1 << 16
 STATUSES = """\
@@ -30,14 +30,14 @@ def build():
     if PROGRAM.exists() and PROGRAM.stat().st_mtime >= max((path.stat().st_mtime for path in sources), default=0):
         return
     crates = len(list(ROOT.glob("crates/*/")))
-    say("building the program: rt check sweep proves what it rests on, up to %d crates, and takes some minutes" % crates)
+    say("building the program: rt run in crates/sweep proves what it rests on, up to %d crates, and takes some minutes" % crates)
     log = ROOT / "target/build.log"
     log.parent.mkdir(exist_ok=True)
     begun = told = time.time()
     shown = 0
     with open(log, "wb") as out:
         try:
-            check = subprocess.Popen(["rt", "check", "sweep"], cwd=ROOT, stdout=out, stderr=out)
+            check = subprocess.Popen(["rt", "run"], cwd=ROOT / "crates/sweep", stdin=subprocess.DEVNULL, stdout=out, stderr=out)
         except OSError:
             raise NoAnswer("the kit's command rt is not in the path, and the program is not built")
         while check.poll() is None:
