@@ -1,0 +1,9 @@
+-- The slices read so far leave what is held, and nothing is refused; the measure is the bytes that an input may still have. Assumes nothing.
+use Rattle.sweep.proofs.ProgressLaws.{left, Read}
+use Rattle.sweep.proofs.input.run.Given as goal
+
+abbrev pub invariant-loop-came : goal.invariant-loop-came
+invariant-loop-came g l = Read l.fn.stacks l.fn.counts l.feeding l.stacks l.counts
+
+abbrev pub decreases-loop-came : goal.decreases-loop-came
+decreases-loop-came g l = left l.feeding
