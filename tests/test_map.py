@@ -22,7 +22,7 @@ DECLARED = re.compile(r"\b(?:fn|struct|enum|const|mod|let|let mut) +(\w+)")
 
 
 def files(ending):
-    return [path for path in ROOT.glob("crates/*/*/**/*." + ending) if "must-fail" not in path.parts]
+    return [path for path in ROOT.glob("crates/*/*/**/*." + ending) if not {"must-fail", "out"} & set(path.parts)]
 
 
 def page(crate, name):
@@ -94,16 +94,16 @@ class Map(unittest.TestCase):
         self.assertEqual(["%s/%s" % pair for pair in pages if page(*pair) is None], [])
 
     def test_each_name_is_on_its_page(self):
-        """Of names before a page, each is on it; a theorem elsewhere is among the claims."""
+        """Of names before a page, each is on it; a theorem elsewhere is among the claims: a demand, or what the third column shows a row by."""
         claims = page("claims", "Claims")
         gone = []
         for row in ROWS:
-            text = " | ".join(row[1:])
+            text = " | ".join([row[1], re.sub(r"contracts? of (?:`\w+`(?:, | and )?)+", "", row[2]), row[3]])
             for quoted, crate, name in re.findall(r"((?:`[^`]+`(?:, | and )?)+) \(([a-z]+)/([A-Z]\w+)\)", text):
                 there = (page(crate, name) or set()) | claims
                 gone += ["%s: %s (%s/%s)" % (row[0], one, crate, name) for one in re.findall(r"`([^`]+)`", quoted) if one not in there]
                 text = text.replace("%s (%s/%s)" % (quoted, crate, name), "")
-            theorems = re.findall(r"`([a-z0-9]+(?:-[a-z0-9]+)+)`", text)
+            theorems = re.findall(r"`(demand_\w+)`", text) + re.findall(r"`([a-z0-9]+(?:_[a-z0-9]+)+)`", text.split(" | ")[1])
             gone += ["%s: %s (claims/Claims)" % (row[0], one) for one in theorems if one not in claims]
         self.assertEqual(gone, [])
 
@@ -137,7 +137,7 @@ class Pages(unittest.TestCase):
         folders = ("crates", "docs", "tests", "scripts", "include", "examples", "bench", "samples", ".ci")
         gone = []
         for path in [ROOT / "README.md"] + [path for folder in folders for path in sorted((ROOT / folder).rglob("*"))]:
-            if path.suffix not in kinds or not path.is_file() or path.name == "test_map.py":
+            if path.suffix not in kinds or "out" in path.parts or not path.is_file() or path.name == "test_map.py":
                 continue
             text = re.sub(r"\s*\n\s*(?://+!?|--|#|\*)?\s*", " ", path.read_text(errors="replace"))
             cited = re.findall(r"SCOPE, ((?:\"[^\"]+\"(?:, | and )?)+)", text)
