@@ -335,11 +335,12 @@ class Sweep(unittest.TestCase):
         copy = self.folder / "copy"
         for name in ("scripts", "crates/sweep/src"):
             (copy / name).mkdir(parents=True)
+        (copy / "crates/sweep/stdin").write_bytes(WORKED)
         subprocess.run(["cp", "-r", ROOT / "scripts/kk", ROOT / "scripts/sweep", ROOT / "scripts/run-program", copy / "scripts"], check=True)
         (copy / "input").write_bytes(WORKED)
         program = self.program.read_text()
         for rt, status, said in [
-            ("echo rt: lists proved; sleep 1; mkdir -p out; cp %s out/sweep" % self.program, 0, "  lists proved\n"),
+            ("[ $* = run ] && cmp -s - ../../input && echo rt: lists proved; sleep 1; cp %s out/sweep" % self.program, 0, "  lists proved\n"),
             ("echo it cannot be; exit 1", 3, "build.log ends:\n  it cannot be\n"),
         ]:
             standin.script(self.folder / "rt", rt)

@@ -26,18 +26,19 @@ class NoAnswer(Exception):
 
 def build():
     """Builds the program where it is missing or older than a source, and says what is going on meanwhile."""
-    sources = list(ROOT.glob("crates/**/*.rt"))
+    sources = list(ROOT.glob("crates/*/src/**/*.rt"))
     if PROGRAM.exists() and PROGRAM.stat().st_mtime >= max((path.stat().st_mtime for path in sources), default=0):
         return
-    crates = len(list(ROOT.glob("crates/*/")))
+    crates = len({path.relative_to(ROOT).parts[1] for path in sources})
     say("building the program: rt run in crates/sweep proves what it rests on, up to %d crates, and takes some minutes" % crates)
-    log = ROOT / "target/build.log"
+    folder = ROOT / "crates/sweep"
+    log = folder / "out/build.log"
     log.parent.mkdir(exist_ok=True)
     begun = told = time.time()
     shown = 0
-    with open(log, "wb") as out:
+    with open(log, "wb") as out, open(folder / "stdin") as worked:
         try:
-            check = subprocess.Popen(["rt", "run"], cwd=ROOT / "crates/sweep", stdin=subprocess.DEVNULL, stdout=out, stderr=out)
+            check = subprocess.Popen(["rt", "run"], cwd=folder, stdin=worked, stdout=out, stderr=out)
         except OSError:
             raise NoAnswer("the kit's command rt is not in the path, and the program is not built")
         while check.poll() is None:
