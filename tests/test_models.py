@@ -61,14 +61,11 @@ class Printed(unittest.TestCase):
         self.assertEqual(printed, GRID)
 
     def test_refusal_numbers(self):
-        """The numbers of SCOPE's table that are given are those of the code, and README.md has advice for each refusal.
-
-        The code also names those that the unfinished report is to give, which SCOPE has not got yet (docs/unfinished-choosing)."""
+        """The numbers of SCOPE's table that are given are those of the code, and README.md has advice for each refusal."""
         rows = re.findall(r"(?m)^\| \*\*R\d+\*\* \| (\d+) \| (.*) \|$", SCOPE)
         printed = [int(number) for number, when in rows if not when.startswith("never:")]
-        to_come = re.findall(r"(?m)^\+\| \*\*R\d+\*\* \| (\d+) \|", (ROOT / "docs/unfinished-choosing/scope.patch").read_text())
         coded = re.findall(r"pub const \w+: u32 = (\d+);", (ROOT / "crates/units/src/refusal.rt").read_text())
-        self.assertEqual(sorted(number for number in map(int, coded) if number in printed or str(number) not in to_come), printed)
+        self.assertEqual(sorted(map(int, coded)), printed)
         advised = re.findall(r"(?m)^\| (\d+) \|", (ROOT / "README.md").read_text())
         self.assertEqual(list(map(int, advised)), printed[1:])
 

@@ -6,7 +6,7 @@ use Rattle.std.specs.Prelude.{ℕ, Bool, ◌&&◌, leb}
 abbrev pub done : ℕ
 done = 0
 
--- an order number, the b or s of a strip, p or q of a ceiling, or the number of tables is outside its limits
+-- an order number, or the b or s of a strip, is outside its limits
 abbrev pub outside_limits : ℕ
 outside_limits = 1
 
@@ -14,7 +14,7 @@ outside_limits = 1
 abbrev pub short_stacks : ℕ
 short_stacks = 2
 
--- count table shorter than the order needs, or the table of misses or of sums than the largest grid does
+-- count table shorter than the order needs
 abbrev pub short_counts : ℕ
 short_counts = 3
 
@@ -34,7 +34,7 @@ stack_full = 6
 abbrev pub count_over : ℕ
 count_over = 7
 
--- asked for a b, s or w that the order lacks, or a place that the grid lacks
+-- asked for a b, s or w that the order lacks
 abbrev pub not_in_order : ℕ
 not_in_order = 8
 
@@ -42,7 +42,7 @@ not_in_order = 8
 abbrev pub no_references : ℕ
 no_references = 9
 
--- an order line is malformed, out of place or missing, or a ceiling line is malformed
+-- an order line is malformed, out of place or missing
 abbrev pub bad_order_line : ℕ
 bad_order_line = 10
 
@@ -70,19 +70,7 @@ bad_address = 16
 abbrev pub too_long : ℕ
 too_long = 17
 
--- a text is no printed table within the limits
-abbrev pub no_table : ℕ
-no_table = 21
-
--- no cache of the grid keeps to the ceiling in every recording
-abbrev pub no_cache : ℕ
-no_cache = 22
-
--- the grid of a table is not that of the first
-abbrev pub grids_differ : ℕ
-grids_differ = 23
-
--- the input of `sweep` has more than 4,294,967,295 lines, or that of `report` as many tables
+-- the program's input has more than 4,294,967,295 lines
 abbrev pub too_many_lines : ℕ
 too_many_lines = 26
 

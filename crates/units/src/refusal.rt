@@ -5,13 +5,13 @@ ghost use Rattle.units.specs.Refusals.{has_column};
 // Done.
 pub const DONE: u32 = 0;
 
-// An order number, the b or s of a strip, p or q of a ceiling, or the number of tables is outside its limits.
+// An order number, or the b or s of a strip, is outside its limits.
 pub const OUTSIDE_LIMITS: u32 = 1;
 
 // The stack table is shorter than the order needs.
 pub const SHORT_STACKS: u32 = 2;
 
-// The count table is shorter than the order needs, or the table of misses or of sums than the largest grid does.
+// The count table is shorter than the order needs.
 pub const SHORT_COUNTS: u32 = 3;
 
 // The state has a used length above room for a block size of the order, or references above refs.
@@ -26,13 +26,13 @@ pub const STACK_FULL: u32 = 6;
 // A count to be raised is not below the references taken, or the hits to be summed exceed them.
 pub const COUNT_OVER: u32 = 7;
 
-// Asked for a b, s or w that the order lacks, or a place that the grid lacks.
+// Asked for a b, s or w that the order lacks.
 pub const NOT_IN_ORDER: u32 = 8;
 
 // A ratio asked with no references taken.
 pub const NO_REFERENCES: u32 = 9;
 
-// An order line is malformed, out of place or missing, or a ceiling line is malformed.
+// An order line is malformed, out of place or missing.
 pub const BAD_ORDER_LINE: u32 = 10;
 
 // The filter table is shorter than 2^s entries.
@@ -53,16 +53,7 @@ pub const BAD_ADDRESS: u32 = 16;
 // A trace line is too long.
 pub const TOO_LONG: u32 = 17;
 
-// A text is no printed table within the limits.
-pub const NO_TABLE: u32 = 21;
-
-// No cache of the grid keeps to the ceiling in every recording.
-pub const NO_CACHE: u32 = 22;
-
-// The grid of a table is not that of the first.
-pub const GRIDS_DIFFER: u32 = 23;
-
-// The input of `sweep` has more than 4,294,967,295 lines, or that of `report` as many tables.
+// The program's input has more than 4,294,967,295 lines.
 pub const TOO_MANY_LINES: u32 = 26;
 
 // 14 to 17, which a trace line is refused with: they alone are told with a column.
