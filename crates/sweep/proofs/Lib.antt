@@ -1,1 +1,2 @@
+mod KnownLaws
 mod ProgressLaws

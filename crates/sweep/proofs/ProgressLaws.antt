@@ -20,7 +20,11 @@ use Rattle.feeding.specs.Feeding.{by_lines, start, held_by, Feeds, Ends}
 use Rattle.feeding.proofs.ByteLaws.{over_stays, over_finished, byte_many, byte_lf, byte_long, byte_kept}
 use Rattle.feeding.proofs.InputLaws.{fed_slices}
 use Rattle.printing.proofs.OutputLaws.{program_prints}
-use Rattle.sweep.specs.Run.{Answered}
+use Rattle.std.specs.Prelude.{IfSome}
+use Rattle.std.specs.declared.option.Option.{Option}
+use Rattle.std.specs.Io.KnownBytes.{Consumes, IsAtEnd}
+use Rattle.sweep.specs.Run.{Answered, AnsweredOver}
+use Rattle.sweep.proofs.KnownLaws.{drawn_none, drawn_more, drawn_all, drawn_some, known_map}
 use Rattle.runs.proofs.InputLaws.{long_refused}
 use Rattle.feeding.proofs.RunLaws.{sound}
 
@@ -147,8 +151,67 @@ module _ (st ct : List ℕ) (f : Feeding) (st₁ ct₁ : List ℕ) (so : Read st
       (sym (over_finished by_lines (held_by r st₂ ct₂) (ap not (ne_eqb r.answer 0 over))) ∙ ap (finished by_lines) all)
 
   -- it is the LF that the last line lacks, if that has begun, and then the input ends
-  pub read_ended : bytes ≡ cond (not (eqb f.len 0)) (lf ∷ []) [] → (last : Feeding) → Ends r last → Answered st ct last st₂ ct₂
-  read_ended e last ends =
+  ended_is : bytes ≡ cond (not (eqb f.len 0)) (lf ∷ []) [] → (last : Feeding) → Ends r last
+      → held_by last st₂ ct₂ ≡ finished by_lines (fed by_lines (held_by start st ct) (joined so.slices))
+  ended_is e last ends =
       let d = held_by f st₁ ct₁ in
       let lf_fed : fed by_lines d bytes ≡ last_line by_lines d = ap (fed by_lines d) e ∙ cases (eqb f.len 0) (λ t. simp t) (λ t. simp t) in
-      whole st ct last st₂ ct₂ so.slices (ends st₂ ct₂ ∙ ap (input_ends by_lines) (feeds ∙ lf_fed) ∙ ap (finished by_lines) so.is)
+      ends st₂ ct₂ ∙ ap (input_ends by_lines) (feeds ∙ lf_fed) ∙ ap (finished by_lines) so.is
+
+  pub read_ended : bytes ≡ cond (not (eqb f.len 0)) (lf ∷ []) [] → (last : Feeding) → Ends r last → Answered st ct last st₂ ct₂
+  read_ended e last ends = whole st ct last st₂ ct₂ so.slices (ended_is e last ends)
+
+-- ---- the bytes that were known
+
+-- the slices so far were drawn from them
+pub record ReadFrom (k k' : Option (List ℕ)) (st ct : List ℕ) (f : Feeding) (st' ct' : List ℕ) : Type 0 where
+  pub read : Read st ct f st' ct'
+  pub drawn : Consumes k k' (joined read.slices)
+
+pub from_none : (k : Option (List ℕ)) (st ct : List ℕ) (f : Feeding) → f ≡ start → ReadFrom k k st ct f st ct
+unfolding joined read_none
+from_none k st ct f e = record { read = read_none st ct f e; drawn = drawn_none k }
+
+-- what the run over all of them comes to
+over : (st ct bytes : List ℕ) (f : Feeding) (st' ct' : List ℕ)
+    → held_by f st' ct' ≡ finished by_lines (fed by_lines (held_by start st ct) bytes) → AnsweredOver st ct bytes f st' ct'
+over st ct bytes f st' ct' e = record { is = e; prints = program_prints st ct bytes f st' ct' e }
+
+module _ (k k₁ : Option (List ℕ)) (st ct : List ℕ) (f : Feeding) (st₁ ct₁ : List ℕ) (so : ReadFrom k k₁ st ct f st₁ ct₁) (bytes : List ℕ)
+    (r : Feeding) (st₂ ct₂ : List ℕ) (feeds : Feeds f bytes st₁ ct₁ r st₂ ct₂) (k₂ : Option (List ℕ)) where
+  -- a slice more
+  pub from_more : Consumes k₁ k₂ bytes → r.answer ≡ 0 → ReadFrom k k₂ st ct r st₂ ct₂
+  unfolding read_more
+  from_more h z = record {
+    read = read_more st ct f st₁ ct₁ so.read bytes r st₂ ct₂ feeds z;
+    drawn = subst (Consumes k k₂) (sym (joined_snoc so.read.slices bytes)) (drawn_more k k₁ k₂ (joined so.read.slices) bytes so.drawn h);
+  }
+
+  -- a refusal stays, whatever comes after it
+  rest_over : (r.answer ≡ 0 → ⊥) → (rest : List ℕ) → AnsweredOver st ct ((joined so.read.slices ++ bytes) ++ rest) r st₂ ct₂
+  rest_over ne rest =
+      let d = held_by r st₂ ct₂ in
+      let o = ap not (ne_eqb r.answer 0 ne) in
+      let first = held_by start st ct in
+      let slices = joined so.read.slices in
+      let fed_now : d ≡ fed by_lines first (slices ++ bytes) =
+      feeds ∙ ap (λ (x : Held Outcome). fed by_lines x bytes) so.read.is ∙ sym (fed_slices by_lines sound first slices bytes) in
+      let fed_all : d ≡ fed by_lines first ((slices ++ bytes) ++ rest) =
+      sym (over_stays by_lines d o rest) ∙ ap (λ (x : Held Outcome). fed by_lines x rest) fed_now
+      ∙ sym (fed_slices by_lines sound first (slices ++ bytes) rest) in
+      over st ct ((slices ++ bytes) ++ rest) r st₂ ct₂ (sym (over_finished by_lines d o) ∙ ap (finished by_lines) fed_all)
+
+  pub refused_over : Consumes k₁ k₂ bytes → (r.answer ≡ 0 → ⊥) → IfSome k (λ all. AnsweredOver st ct all r st₂ ct₂)
+  refused_over h ne =
+      known_map k (λ all w. subst (λ (l : List ℕ). AnsweredOver st ct l r st₂ ct₂) w.1 (rest_over ne w.0))
+      (drawn_some k k₂ (joined so.read.slices ++ bytes) (drawn_more k k₁ k₂ (joined so.read.slices) bytes so.drawn h))
+
+  -- the input ends, and all of them came
+  pub ended_over : IsAtEnd k₁ → bytes ≡ cond (not (eqb f.len 0)) (lf ∷ []) [] → (last : Feeding) → Ends r last
+      → IfSome k (λ all. AnsweredOver st ct all last st₂ ct₂)
+  ended_over h e last ends =
+      known_map k
+      (λ all w.
+      subst (λ (l : List ℕ). AnsweredOver st ct l last st₂ ct₂) w
+      (over st ct (joined so.read.slices) last st₂ ct₂ (ended_is st ct f st₁ ct₁ so.read bytes r st₂ ct₂ feeds e last ends)))
+      (drawn_all k k₁ (joined so.read.slices) so.drawn h)

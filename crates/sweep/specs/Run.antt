@@ -1,6 +1,8 @@
--- What the run over standard input leaves. `read` of the C library says nothing of the bytes that it puts, so the statement is over those that it
--- gave. Assumes nothing.
-use Rattle.std.specs.Prelude.{ℕ, ◌≤◌, ◌<◌, ◌≡◌, Bool, true, false, cond, List, [], ◌∷◌, length, take}
+-- What the run over a reader leaves. A read of standard input says nothing of the bytes that it puts, so a statement is over those that it gave;
+-- where a reader's bytes are known, another is over those. Assumes nothing.
+use Rattle.std.specs.Prelude.{ℕ, ◌≤◌, ◌<◌, ◌≡◌, Bool, true, false, cond, List, [], ◌∷◌, length, take, IfSome}
+use Rattle.std.specs.Io.KnownBytes.{Consumes, IsAtEnd}
+use Rattle.std.specs.declared.option.Option.{Option}
 use Rattle.feeding.specs.declared.Feeding.{Feeding}
 use Rattle.feeding.specs.Lines.{lf, joined}
 use Rattle.feeding.specs.Machine.{fed, finished}
@@ -25,3 +27,19 @@ pub record Answered (st ct : List ℕ) (f : Feeding) (st' ct' : List ℕ) : Type
 -- THE RUN: unless a read failed
 abbrev pub Ran : List ℕ → List ℕ → Ended → List ℕ → List ℕ → Type 0
 Ran st ct r st' ct' = r.failed ≡ false → Answered st ct r.feeding st' ct'
+
+-- ---- where the bytes that the reader has left are known
+
+-- what came was taken from their front; at the end of the input none was left
+pub record Drawn (known known' : Option (List ℕ)) (chunk : List ℕ) (r : More) : Type 0 where
+  pub taken : r.failed ≡ false → r.last ≡ false → Consumes known known' (take r.len chunk)
+  pub none_left : r.failed ≡ false → r.last ≡ true → IsAtEnd known
+
+-- what these bytes and their end leave, and that it prints as the definition from bytes to bytes says
+pub record AnsweredOver (st ct bytes : List ℕ) (f : Feeding) (st' ct' : List ℕ) : Type 0 where
+  pub is : held_by f st' ct' ≡ finished by_lines (fed by_lines (held_by start st ct) bytes)
+  pub prints : output_of f.answer f.reading ct' ≡ printed_for st ct bytes
+
+-- THE RUN OVER ALL OF THEM: unless a read failed
+abbrev pub RanOver : Option (List ℕ) → List ℕ → List ℕ → Ended → List ℕ → List ℕ → Type 0
+RanOver known st ct r st' ct' = r.failed ≡ false → IfSome known (λ bytes. AnsweredOver st ct bytes r.feeding st' ct')

@@ -1,7 +1,7 @@
 // A reader, in chunks, given to the machine up to the end or the first refusal.
 ghost use Rattle.std.specs.Prelude.{◌≡◌, ◌<◌, length};
 ghost use Rattle.reading.specs.Tables.{stack_entries, count_entries};
-ghost use Rattle.sweep.specs.Run.{Came, Ran};
+ghost use Rattle.sweep.specs.Run.{Came, Drawn, Ran, RanOver};
 
 use feeding::Feeding;
 use std::io::Read;
@@ -25,7 +25,8 @@ pub(crate) struct Ended {
 // Reads once. At the end of the input, a line that has begun gets the LF that it lacks.
 fn read_more<R: Read>(input: &mut R, chunk: &mut [u8], begun: bool) -> More
     requires { 0 < length chunk.old }
-    ensures { Came begun chunk.new result }
+    ensures came { Came begun chunk.new result }
+    ensures drawn { Drawn (R.remaining input.old) (R.remaining input.new) chunk.new result }
 {
     let Ok(len) = input.read(chunk) else {
         return More {
@@ -64,7 +65,8 @@ pub(crate) fn run<R: Read>(
     counts: &mut [u32],
 ) -> Ended
     requires { (0 < length chunk.old) × (length stacks.old ≡ stack_entries) × (length counts.old ≡ count_entries) }
-    ensures { Ran stacks.old counts.old result stacks.new counts.new }
+    ensures ran { Ran stacks.old counts.old result stacks.new counts.new }
+    ensures ran_over { RanOver (R.remaining input.old) stacks.old counts.old result stacks.new counts.new }
 {
     let mut feeding = Feeding::start();
     loop {

@@ -6,8 +6,8 @@ use mathlib.Core.Bool.{true≢false}
 use Rattle.feeding.specs.Lines.{lf}
 use Rattle.sweep.proofs.input.read_more.Goals as goal
 
-pub returns : goal.returns
-returns g c =
+pub returns-clause-came : goal.returns-clause-came
+returns-clause-came g c =
     let chunk = c.read.new.buf in
     let some : 0 < length chunk = search rules in
     let same = length-set chunk 0 lf in
