@@ -41,6 +41,7 @@ pub(crate) fn is_whole(line: &[u8], bytes: &[u8]) -> bool
 }
 
 // The number from `from` to the end of the line.
+#[tactic(auto, using(crate::proofs::OrderLaws::number_zero, crate::proofs::OrderLaws::number_zeros))]
 fn number_from(line: &[u8], from: usize) -> Number
     requires { from ≤ length line.now }
     ensures { result ≡ number_of (drop from line.now) }

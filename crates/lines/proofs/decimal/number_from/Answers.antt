@@ -35,16 +35,6 @@ returns-then-count-gt-DECIMAL_MOST c =
     let a = c.args in
     sym (number_long a.line.now a.from (omega arith) c.if-count-gt-DECIMAL_MOST.true)
 
-pub returns-then-count-eq1 : goal.returns-then-count-eq1
-returns-then-count-eq1 c =
-    let a = c.args in
-    sym (number_zero a.line.now a.from (omega arith) c.if-line-from-eq48.true c.if-count-eq1.true)
-
-pub returns-then-line-from-eq48 : goal.returns-then-line-from-eq48
-returns-then-line-from-eq48 c =
-    let a = c.args in
-    sym (number_zeros a.line.now a.from (omega arith) c.if-line-from-eq48.true c.if-count-eq1.false)
-
 pub returns-then-digit-lt48 : goal.returns-then-digit-lt48
 returns-then-digit-lt48 c =
     let a = c.args in

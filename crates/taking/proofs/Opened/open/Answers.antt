@@ -3,6 +3,7 @@ use Prim.Native.Nat.{ℕ}
 use mathlib.Core.Path.{◌≡◌, ap, ap₂, ◌∙◌}
 use mathlib.Core.Bool.{true, false, not}
 use mathlib.Core.List.{List}
+use native.Mathlib.Omega.{arith}
 use lib.Dec.{ltb}
 use lib.ListN.{length}
 use Rattle.lists.specs.Tables.{zeroed}
@@ -43,7 +44,7 @@ returns-then-counts-count_need c =
     c.count_need-count_need.ensures ∙ simp fits in
     let long : (let a = c.args in ltb (length a.stacks.now) (stack_need a.order)
     ≡ false) =
-    long_of c.stack_need-stack_need.ensures c.if-stacks-stack_need.false in
+    long_of c.stack_need-stack_need.ensures (omega arith) in
     let none_opened : (let a = c.args in world c.none-none.result a.stacks.now a.counts.now ≡ unopened a.stacks.now
     a.counts.now) =
     let a = c.args in
