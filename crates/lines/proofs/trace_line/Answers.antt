@@ -22,10 +22,10 @@ goes_on : (c : After-hex_digits-address) →
     let end = c.hex_digits-address.result.end in
     trace_line_of (read c) ≡ in_address (get_or (read c) 0 0) (end - start) c.hex_digits-address.result.value (end + 1) (drop end (read c))
 goes_on c =
-    let right = range_yes 48 52 _ c.if-label-lt48.false c.if-label-gt52.false in
+    let right = range_yes 48 52 (get_or c.args.line.now 0 0) (omega arith) (omega arith) in
     let at = c.gap_end-start.ensures in
     let within = start_within (read c) (omega arith) (omega arith) right _ at in
-    line_address (read c) (omega arith) (omega arith) right _ at c.if-start-eq1.false (omega arith)
+    line_address (read c) (omega arith) (omega arith) right _ at (λ z. omega arith) (omega arith)
     ∙ c.hex_digits-address.ensures.goes_on (get_or (read c) 0 0)
 
 pub returns-then-len-gt-LONGEST : goal.returns-then-len-gt-LONGEST
@@ -46,21 +46,21 @@ returns-then-label-gt52 c =
 
 pub returns-then-start-eq1 : goal.returns-then-start-eq1
 returns-then-start-eq1 c =
-    let right = range_yes 48 52 _ c.if-label-lt48.false c.if-label-gt52.false in
+    let right = range_yes 48 52 (get_or c.args.line.now 0 0) (omega arith) (omega arith) in
     trace_says
     (line_no_gap c.args.line.now (omega arith) (omega arith) right _ c.gap_end-start.ensures c.if-start-eq1.true
     ∙ sym c.bad_at-then-start-eq1.ensures)
 
 pub returns-then-start-len : goal.returns-then-start-len
 returns-then-start-len c =
-    let right = range_yes 48 52 _ c.if-label-lt48.false c.if-label-gt52.false in
+    let right = range_yes 48 52 (get_or c.args.line.now 0 0) (omega arith) (omega arith) in
     trace_says
-    (line_no_address c.args.line.now (omega arith) (omega arith) right _ c.gap_end-start.ensures c.if-start-eq1.false c.if-start-len.true
+    (line_no_address c.args.line.now (omega arith) (omega arith) right _ c.gap_end-start.ensures (λ z. omega arith) c.if-start-len.true
     ∙ sym c.bad_at-then-start-len.ensures)
 
 pub hex_digits-address-requires : goal.hex_digits-address-requires
 hex_digits-address-requires c =
-    let right = range_yes 48 52 _ c.if-label-lt48.false c.if-label-gt52.false in
+    let right = range_yes 48 52 (get_or c.args.line.now 0 0) (omega arith) (omega arith) in
     start_within c.args.line.now (omega arith) (omega arith) right _ c.gap_end-start.ensures
 
 pub returns-then-end-len : goal.returns-then-end-len

@@ -10,7 +10,7 @@ use Rattle.lists.proofs.CompareLaws.{range_yes, range_below, range_above}
 use Rattle.lines.specs.OrderLine.{all_decimal, decimal}
 use Rattle.lines.specs.Parts.{number_of}
 use Rattle.lines.specs.declared.decimal.Number.TheVariants.{Value}
-use Rattle.lines.proofs.OrderLaws.{digits_more, digits_other, digits_end, decimal_more, decimal_end, number_none, number_long, number_zero, number_zeros, number_other, number_right}
+use Rattle.lines.proofs.OrderLaws.{digits_more, digits_other, digits_end, decimal_more, decimal_end, number_none, number_long, number_other, number_right}
 use Rattle.lines.proofs.decimal.number_from.Goals as goal
 
 -- one more of at most 10 digits fits
@@ -67,12 +67,12 @@ pub returns-then-value-gt4294967295 : goal.returns-then-value-gt4294967295
 returns-then-value-gt4294967295 c =
     let a = c.args in
     let l = c.loop-i in
-    sym (whole a.line.now a.from l.i l.value (omega arith) (omega arith) c.if-line-from-eq48.false (omega arith) l.invariant.3 l.invariant.4
+    sym (whole a.line.now a.from l.i l.value (omega arith) (omega arith) (λ z. omega arith) (omega arith) l.invariant.3 l.invariant.4
     ∙ ap Value (omega arith))
 
 pub returns : goal.returns
 returns c =
     let a = c.args in
     let l = c.loop-i in
-    sym (whole a.line.now a.from l.i l.value (omega arith) (omega arith) c.if-line-from-eq48.false (omega arith) l.invariant.3 l.invariant.4
+    sym (whole a.line.now a.from l.i l.value (omega arith) (omega arith) (λ z. omega arith) (omega arith) l.invariant.3 l.invariant.4
     ∙ ap Value (omega arith))
