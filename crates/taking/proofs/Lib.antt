@@ -1,3 +1,4 @@
+pub mod CellLaws
 pub mod FlushLaws
 pub mod LookLaws
 pub mod MoveLaws

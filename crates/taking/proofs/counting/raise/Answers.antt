@@ -1,16 +1,16 @@
 -- `raise` meets its contract: the rows passed are raised, and a row to come has its counts as they were. Where the second loop starts, every
 -- depth to come is 0; it goes on from whatever list the first started with. Assumes nothing.
-use Prim.Native.Nat.{ℕ, ◌≤◌, ◌<◌, ◌+◌, ◌*◌}
+use Prim.Native.Nat.{ℕ, ◌<◌, ◌+◌, ◌*◌}
 use mathlib.Core.Path.{◌≡◌, refl, ap, ◌∙◌, subst}
 use native.Mathlib.Nat.{add-zero}
 use native.Mathlib.Omega.{arith}
 use lib.ListN.{get_or, length-set}
 use borrow.Author.Rules.{rules}
 use Rattle.lists.specs.Tables.{raised_rows}
-use Rattle.lists.proofs.PartLaws.{row_in}
-use Rattle.lists.proofs.RaiseLaws.{cell_in, row_le, raised_none, raised_yes, raised_not, raised_past}
+use Rattle.lists.proofs.RaiseLaws.{raised_none, raised_yes, raised_not, raised_past}
 use Rattle.lists.proofs.TopRowLaws.{raise_top}
 use Rattle.taking.specs.Parts.{count_most, depth_from}
+use Rattle.taking.proofs.CellLaws.{row_at, cell_at}
 use Rattle.taking.proofs.counting.raise.Goals as goal
 use Rattle.taking.proofs.counting.raise.Goals.{then-d-ways, else-d-ways, else-loop-s-test, then-loop-s-test+then-d-eq0}
 
@@ -96,126 +96,60 @@ pub overflow_cast-d : goal.overflow_cast-d
 overflow_cast-d c = omega (arith, c.shared_slice_known-1.given (c.args.at + c.loop-s.s))
 
 pub overflow_add-i : goal.overflow_add-i
-overflow_add-i c = let cell : (let a = c.args in let r = a.first + c.loop-s.s in
-    (r ≤ r * a.ways) × (r * a.ways + depth_from a.at a.depths.now c.loop-s.s < (a.first + a.rows) * a.ways)) =
-    let a = c.args in
-    let r = a.first + c.loop-s.s in (
-      row_le r a.ways (omega arith),
-      cell_in a.ways r (a.first + a.rows) (depth_from a.at a.depths.now c.loop-s.s) (omega arith)
-          c.if-d-ways.true,
-    ) in
-    omega (arith, cell)
+overflow_add-i c =
+    let a = c.args in let d = depth_from a.at a.depths.now c.loop-s.s in
+    omega (arith, cell_at a.ways a.first a.rows c.loop-s.s d (omega arith) (omega arith) c.if-d-ways.true)
 
 pub overflow_mul-i : goal.overflow_mul-i
-overflow_mul-i c = let cell : (let a = c.args in let r = a.first + c.loop-s.s in
-    (r ≤ r * a.ways) × (r * a.ways + depth_from a.at a.depths.now c.loop-s.s < (a.first + a.rows) * a.ways)) =
-    let a = c.args in
-    let r = a.first + c.loop-s.s in (
-      row_le r a.ways (omega arith),
-      cell_in a.ways r (a.first + a.rows) (depth_from a.at a.depths.now c.loop-s.s) (omega arith)
-          c.if-d-ways.true,
-    ) in
-    omega (arith, cell)
+overflow_mul-i c =
+    let a = c.args in let d = depth_from a.at a.depths.now c.loop-s.s in
+    omega (arith, cell_at a.ways a.first a.rows c.loop-s.s d (omega arith) (omega arith) c.if-d-ways.true)
 
 pub overflow_add-i-then-d-ways : goal.overflow_add-i-then-d-ways
-overflow_add-i-then-d-ways c = let cell : (let a = c.args in let r = a.first + c.loop-s.s in
-    (r ≤ r * a.ways) × (r * a.ways + depth_from a.at a.depths.now c.loop-s.s < (a.first + a.rows) * a.ways)) =
-    let a = c.args in
-    let r = a.first + c.loop-s.s in (
-      row_le r a.ways (omega arith),
-      cell_in a.ways r (a.first + a.rows) (depth_from a.at a.depths.now c.loop-s.s) (omega arith)
-          c.if-d-ways.true,
-    ) in
-    omega (arith, cell)
+overflow_add-i-then-d-ways c =
+    let a = c.args in let d = depth_from a.at a.depths.now c.loop-s.s in
+    omega (arith, cell_at a.ways a.first a.rows c.loop-s.s d (omega arith) (omega arith) c.if-d-ways.true)
 
 pub offset_bounds-counts-i : goal.offset_bounds-counts-i
-offset_bounds-counts-i c = let cell : (let a = c.args in let r = a.first + c.loop-s.s in
-    (r ≤ r * a.ways) × (r * a.ways + depth_from a.at a.depths.now c.loop-s.s < (a.first + a.rows) * a.ways)) =
-    let a = c.args in
-    let r = a.first + c.loop-s.s in (
-      row_le r a.ways (omega arith),
-      cell_in a.ways r (a.first + a.rows) (depth_from a.at a.depths.now c.loop-s.s) (omega arith)
-          c.if-d-ways.true,
-    ) in
-    omega (arith, cell)
+offset_bounds-counts-i c =
+    let a = c.args in let d = depth_from a.at a.depths.now c.loop-s.s in
+    omega (arith, cell_at a.ways a.first a.rows c.loop-s.s d (omega arith) (omega arith) c.if-d-ways.true)
 
 pub bounds-counts-i : goal.bounds-counts-i
-bounds-counts-i c = let cell : (let a = c.args in let r = a.first + c.loop-s.s in
-    (r ≤ r * a.ways) × (r * a.ways + depth_from a.at a.depths.now c.loop-s.s < (a.first + a.rows) * a.ways)) =
-    let a = c.args in
-    let r = a.first + c.loop-s.s in (
-      row_le r a.ways (omega arith),
-      cell_in a.ways r (a.first + a.rows) (depth_from a.at a.depths.now c.loop-s.s) (omega arith)
-          c.if-d-ways.true,
-    ) in
-    omega (arith, cell)
+bounds-counts-i c =
+    let a = c.args in let d = depth_from a.at a.depths.now c.loop-s.s in
+    omega (arith, cell_at a.ways a.first a.rows c.loop-s.s d (omega arith) (omega arith) c.if-d-ways.true)
 
 pub offset_bounds-counts-i-then-d-ways : goal.offset_bounds-counts-i-then-d-ways
-offset_bounds-counts-i-then-d-ways c = let cell : (let a = c.args in let r = a.first + c.loop-s.s in
-    (r ≤ r * a.ways) × (r * a.ways + depth_from a.at a.depths.now c.loop-s.s < (a.first + a.rows) * a.ways)) =
-    let a = c.args in
-    let r = a.first + c.loop-s.s in (
-      row_le r a.ways (omega arith),
-      cell_in a.ways r (a.first + a.rows) (depth_from a.at a.depths.now c.loop-s.s) (omega arith)
-          c.if-d-ways.true,
-    ) in
-    omega (arith, cell)
+offset_bounds-counts-i-then-d-ways c =
+    let a = c.args in let d = depth_from a.at a.depths.now c.loop-s.s in
+    omega (arith, cell_at a.ways a.first a.rows c.loop-s.s d (omega arith) (omega arith) c.if-d-ways.true)
 
 pub bounds-counts-i-then-d-ways : goal.bounds-counts-i-then-d-ways
-bounds-counts-i-then-d-ways c = let cell : (let a = c.args in let r = a.first + c.loop-s.s in
-    (r ≤ r * a.ways) × (r * a.ways + depth_from a.at a.depths.now c.loop-s.s < (a.first + a.rows) * a.ways)) =
-    let a = c.args in
-    let r = a.first + c.loop-s.s in (
-      row_le r a.ways (omega arith),
-      cell_in a.ways r (a.first + a.rows) (depth_from a.at a.depths.now c.loop-s.s) (omega arith)
-          c.if-d-ways.true,
-    ) in
-    omega (arith, cell)
+bounds-counts-i-then-d-ways c =
+    let a = c.args in let d = depth_from a.at a.depths.now c.loop-s.s in
+    omega (arith, cell_at a.ways a.first a.rows c.loop-s.s d (omega arith) (omega arith) c.if-d-ways.true)
 
 pub overflow_add-i-in-loop-s-2 : goal.overflow_add-i-in-loop-s-2
-overflow_add-i-in-loop-s-2 c = let top : (let a = c.args in let r = a.first + c.loop-s-2.s in
-    (r ≤ r * a.ways) × (r * a.ways + a.ways ≤ (a.first + a.rows) * a.ways)) =
-    let a = c.args in
-    let r = a.first + c.loop-s-2.s in
-    (row_le r a.ways (omega arith), row_in r (a.first + a.rows) a.ways (omega arith)) in
-    omega (arith, top)
+overflow_add-i-in-loop-s-2 c =
+    let a = c.args in omega (arith, row_at a.ways a.first a.rows c.loop-s-2.s (omega arith) (omega arith))
 
 pub overflow_mul-i-in-loop-s-2 : goal.overflow_mul-i-in-loop-s-2
-overflow_mul-i-in-loop-s-2 c = let top : (let a = c.args in let r = a.first + c.loop-s-2.s in
-    (r ≤ r * a.ways) × (r * a.ways + a.ways ≤ (a.first + a.rows) * a.ways)) =
-    let a = c.args in
-    let r = a.first + c.loop-s-2.s in
-    (row_le r a.ways (omega arith), row_in r (a.first + a.rows) a.ways (omega arith)) in
-    omega (arith, top)
+overflow_mul-i-in-loop-s-2 c =
+    let a = c.args in omega (arith, row_at a.ways a.first a.rows c.loop-s-2.s (omega arith) (omega arith))
 
 pub offset_bounds-counts-i-in-loop-s-2 : goal.offset_bounds-counts-i-in-loop-s-2
-offset_bounds-counts-i-in-loop-s-2 c = let top : (let a = c.args in let r = a.first + c.loop-s-2.s in
-    (r ≤ r * a.ways) × (r * a.ways + a.ways ≤ (a.first + a.rows) * a.ways)) =
-    let a = c.args in
-    let r = a.first + c.loop-s-2.s in
-    (row_le r a.ways (omega arith), row_in r (a.first + a.rows) a.ways (omega arith)) in
-    omega (arith, top)
+offset_bounds-counts-i-in-loop-s-2 c =
+    let a = c.args in omega (arith, row_at a.ways a.first a.rows c.loop-s-2.s (omega arith) (omega arith))
 
 pub bounds-counts-i-in-loop-s-2 : goal.bounds-counts-i-in-loop-s-2
-bounds-counts-i-in-loop-s-2 c = let top : (let a = c.args in let r = a.first + c.loop-s-2.s in
-    (r ≤ r * a.ways) × (r * a.ways + a.ways ≤ (a.first + a.rows) * a.ways)) =
-    let a = c.args in
-    let r = a.first + c.loop-s-2.s in
-    (row_le r a.ways (omega arith), row_in r (a.first + a.rows) a.ways (omega arith)) in
-    omega (arith, top, c.loop-s-2.invariant.long, c.loop-s.invariant.long)
+bounds-counts-i-in-loop-s-2 c =
+    let a = c.args in omega (arith, row_at a.ways a.first a.rows c.loop-s-2.s (omega arith) (omega arith), c.loop-s-2.invariant.long, c.loop-s.invariant.long)
 
 pub offset_bounds-counts-i-in-loop-s-2-2 : goal.offset_bounds-counts-i-in-loop-s-2-2
-offset_bounds-counts-i-in-loop-s-2-2 c = let top : (let a = c.args in let r = a.first + c.loop-s-2.s in
-    (r ≤ r * a.ways) × (r * a.ways + a.ways ≤ (a.first + a.rows) * a.ways)) =
-    let a = c.args in
-    let r = a.first + c.loop-s-2.s in
-    (row_le r a.ways (omega arith), row_in r (a.first + a.rows) a.ways (omega arith)) in
-    omega (arith, top)
+offset_bounds-counts-i-in-loop-s-2-2 c =
+    let a = c.args in omega (arith, row_at a.ways a.first a.rows c.loop-s-2.s (omega arith) (omega arith))
 
 pub bounds-counts-i-in-loop-s-2-2 : goal.bounds-counts-i-in-loop-s-2-2
-bounds-counts-i-in-loop-s-2-2 c = let top : (let a = c.args in let r = a.first + c.loop-s-2.s in
-    (r ≤ r * a.ways) × (r * a.ways + a.ways ≤ (a.first + a.rows) * a.ways)) =
-    let a = c.args in
-    let r = a.first + c.loop-s-2.s in
-    (row_le r a.ways (omega arith), row_in r (a.first + a.rows) a.ways (omega arith)) in
-    omega (arith, top, c.loop-s-2.invariant.long, c.loop-s.invariant.long)
+bounds-counts-i-in-loop-s-2-2 c =
+    let a = c.args in omega (arith, row_at a.ways a.first a.rows c.loop-s-2.s (omega arith) (omega arith), c.loop-s-2.invariant.long, c.loop-s.invariant.long)

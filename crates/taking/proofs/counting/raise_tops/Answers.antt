@@ -1,5 +1,5 @@
 -- `raise_tops` meets its contract: the rows passed are raised, and a row to come has its counts as they were. Assumes nothing.
-use Prim.Native.Nat.{ℕ, ◌≤◌, ◌+◌, ◌*◌}
+use Prim.Native.Nat.{ℕ, ◌*◌}
 use mathlib.Core.Path.{◌≡◌, refl, ap, ◌∙◌}
 use native.Mathlib.Omega.{arith}
 use lib.ListN.{get_or, length-set}
@@ -39,26 +39,16 @@ pub loop-s-init : goal.loop-s-init
 loop-s-init c = record { upto = search rules; long = refl; done = raised_none _ _ _ _ }
 
 pub overflow_mul-i : goal.overflow_mul-i
-overflow_mul-i c = let inside : (let a = c.args in c.loop-s.s * a.ways + a.ways ≤ a.rows * a.ways) =
-    row_in c.loop-s.s c.args.rows c.args.ways (omega arith) in
-    omega (arith, inside)
+overflow_mul-i c = omega (arith, row_in c.loop-s.s c.args.rows c.args.ways (omega arith))
 
 pub offset_bounds-counts-i : goal.offset_bounds-counts-i
-offset_bounds-counts-i c = let inside : (let a = c.args in c.loop-s.s * a.ways + a.ways ≤ a.rows * a.ways) =
-    row_in c.loop-s.s c.args.rows c.args.ways (omega arith) in
-    omega (arith, inside)
+offset_bounds-counts-i c = omega (arith, row_in c.loop-s.s c.args.rows c.args.ways (omega arith))
 
 pub bounds-counts-i : goal.bounds-counts-i
-bounds-counts-i c = let inside : (let a = c.args in c.loop-s.s * a.ways + a.ways ≤ a.rows * a.ways) =
-    row_in c.loop-s.s c.args.rows c.args.ways (omega arith) in
-    omega (arith, inside)
+bounds-counts-i c = omega (arith, row_in c.loop-s.s c.args.rows c.args.ways (omega arith))
 
 pub offset_bounds-counts-i-in-loop-s : goal.offset_bounds-counts-i-in-loop-s
-offset_bounds-counts-i-in-loop-s c = let inside : (let a = c.args in c.loop-s.s * a.ways + a.ways ≤ a.rows * a.ways) =
-    row_in c.loop-s.s c.args.rows c.args.ways (omega arith) in
-    omega (arith, inside)
+offset_bounds-counts-i-in-loop-s c = omega (arith, row_in c.loop-s.s c.args.rows c.args.ways (omega arith))
 
 pub bounds-counts-i-in-loop-s : goal.bounds-counts-i-in-loop-s
-bounds-counts-i-in-loop-s c = let inside : (let a = c.args in c.loop-s.s * a.ways + a.ways ≤ a.rows * a.ways) =
-    row_in c.loop-s.s c.args.rows c.args.ways (omega arith) in
-    omega (arith, inside)
+bounds-counts-i-in-loop-s c = omega (arith, row_in c.loop-s.s c.args.rows c.args.ways (omega arith))

@@ -1,15 +1,14 @@
 -- `size_over` meets its contract: no count of the rows passed was over. Where the second loop starts, every depth to come is 0. Assumes nothing.
-use Prim.Native.Nat.{◌≤◌, ◌<◌, ◌+◌, ◌*◌}
+use Prim.Native.Nat.{◌+◌}
 use mathlib.Core.Path.{sym, ◌∙◌}
 use native.Mathlib.Omega.{arith}
 use borrow.Author.Rules.{rules}
 use borrow.Author.Tests.{lt-ltb, le-ltb, le-leb, lt-leb}
 use Rattle.lists.specs.Tables.{over_row}
-use Rattle.lists.proofs.PartLaws.{row_in}
 use Rattle.lists.proofs.TestLaws.{any_none, any_more, any_yes, any_ended}
-use Rattle.lists.proofs.RaiseLaws.{cell_in, row_le}
 use Rattle.lists.proofs.TopRowLaws.{over_top}
 use Rattle.taking.specs.Parts.{depth_from}
+use Rattle.taking.proofs.CellLaws.{row_at, cell_at}
 use Rattle.taking.proofs.counting.size_over.Goals as goal
 use Rattle.taking.proofs.counting.size_over.Goals.{then-d-ways+else-counts-first, else-d-ways, else-loop-s-test, then-loop-s-test+then-d-eq0}
 
@@ -80,88 +79,42 @@ pub overflow_cast-d : goal.overflow_cast-d
 overflow_cast-d c = omega (arith, c.shared_slice_known-1.given (c.args.at + c.loop-s.s))
 
 pub overflow_add-first : goal.overflow_add-first
-overflow_add-first c = let cell : (let a = c.args in let r = a.first + c.loop-s.s in
-    (r ≤ r * a.ways) × (r * a.ways + depth_from a.at a.depths.now c.loop-s.s < (a.first + a.rows) * a.ways)) =
-    let a = c.args in
-    let r = a.first + c.loop-s.s in (
-      row_le r a.ways (omega arith),
-      cell_in a.ways r (a.first + a.rows) (depth_from a.at a.depths.now c.loop-s.s) (omega arith)
-          c.if-d-ways.true,
-    ) in
-    omega (arith, cell)
+overflow_add-first c =
+    let a = c.args in let d = depth_from a.at a.depths.now c.loop-s.s in
+    omega (arith, cell_at a.ways a.first a.rows c.loop-s.s d (omega arith) (omega arith) c.if-d-ways.true)
 
 pub overflow_mul-first : goal.overflow_mul-first
-overflow_mul-first c = let cell : (let a = c.args in let r = a.first + c.loop-s.s in
-    (r ≤ r * a.ways) × (r * a.ways + depth_from a.at a.depths.now c.loop-s.s < (a.first + a.rows) * a.ways)) =
-    let a = c.args in
-    let r = a.first + c.loop-s.s in (
-      row_le r a.ways (omega arith),
-      cell_in a.ways r (a.first + a.rows) (depth_from a.at a.depths.now c.loop-s.s) (omega arith)
-          c.if-d-ways.true,
-    ) in
-    omega (arith, cell)
+overflow_mul-first c =
+    let a = c.args in let d = depth_from a.at a.depths.now c.loop-s.s in
+    omega (arith, cell_at a.ways a.first a.rows c.loop-s.s d (omega arith) (omega arith) c.if-d-ways.true)
 
 pub overflow_add-first-then-d-ways : goal.overflow_add-first-then-d-ways
-overflow_add-first-then-d-ways c = let cell : (let a = c.args in let r = a.first + c.loop-s.s in
-    (r ≤ r * a.ways) × (r * a.ways + depth_from a.at a.depths.now c.loop-s.s < (a.first + a.rows) * a.ways)) =
-    let a = c.args in
-    let r = a.first + c.loop-s.s in (
-      row_le r a.ways (omega arith),
-      cell_in a.ways r (a.first + a.rows) (depth_from a.at a.depths.now c.loop-s.s) (omega arith)
-          c.if-d-ways.true,
-    ) in
-    omega (arith, cell)
+overflow_add-first-then-d-ways c =
+    let a = c.args in let d = depth_from a.at a.depths.now c.loop-s.s in
+    omega (arith, cell_at a.ways a.first a.rows c.loop-s.s d (omega arith) (omega arith) c.if-d-ways.true)
 
 pub offset_bounds-counts-first : goal.offset_bounds-counts-first
-offset_bounds-counts-first c = let cell : (let a = c.args in let r = a.first + c.loop-s.s in
-    (r ≤ r * a.ways) × (r * a.ways + depth_from a.at a.depths.now c.loop-s.s < (a.first + a.rows) * a.ways)) =
-    let a = c.args in
-    let r = a.first + c.loop-s.s in (
-      row_le r a.ways (omega arith),
-      cell_in a.ways r (a.first + a.rows) (depth_from a.at a.depths.now c.loop-s.s) (omega arith)
-          c.if-d-ways.true,
-    ) in
-    omega (arith, cell)
+offset_bounds-counts-first c =
+    let a = c.args in let d = depth_from a.at a.depths.now c.loop-s.s in
+    omega (arith, cell_at a.ways a.first a.rows c.loop-s.s d (omega arith) (omega arith) c.if-d-ways.true)
 
 pub bounds-counts-first : goal.bounds-counts-first
-bounds-counts-first c = let cell : (let a = c.args in let r = a.first + c.loop-s.s in
-    (r ≤ r * a.ways) × (r * a.ways + depth_from a.at a.depths.now c.loop-s.s < (a.first + a.rows) * a.ways)) =
-    let a = c.args in
-    let r = a.first + c.loop-s.s in (
-      row_le r a.ways (omega arith),
-      cell_in a.ways r (a.first + a.rows) (depth_from a.at a.depths.now c.loop-s.s) (omega arith)
-          c.if-d-ways.true,
-    ) in
-    omega (arith, cell)
+bounds-counts-first c =
+    let a = c.args in let d = depth_from a.at a.depths.now c.loop-s.s in
+    omega (arith, cell_at a.ways a.first a.rows c.loop-s.s d (omega arith) (omega arith) c.if-d-ways.true)
 
 pub overflow_add-first-in-loop-s-2 : goal.overflow_add-first-in-loop-s-2
-overflow_add-first-in-loop-s-2 c = let top : (let a = c.args in let r = a.first + c.loop-s-2.s in
-    (r ≤ r * a.ways) × (r * a.ways + a.ways ≤ (a.first + a.rows) * a.ways)) =
-    let a = c.args in
-    let r = a.first + c.loop-s-2.s in
-    (row_le r a.ways (omega arith), row_in r (a.first + a.rows) a.ways (omega arith)) in
-    omega (arith, top)
+overflow_add-first-in-loop-s-2 c =
+    let a = c.args in omega (arith, row_at a.ways a.first a.rows c.loop-s-2.s (omega arith) (omega arith))
 
 pub overflow_mul-first-in-loop-s-2 : goal.overflow_mul-first-in-loop-s-2
-overflow_mul-first-in-loop-s-2 c = let top : (let a = c.args in let r = a.first + c.loop-s-2.s in
-    (r ≤ r * a.ways) × (r * a.ways + a.ways ≤ (a.first + a.rows) * a.ways)) =
-    let a = c.args in
-    let r = a.first + c.loop-s-2.s in
-    (row_le r a.ways (omega arith), row_in r (a.first + a.rows) a.ways (omega arith)) in
-    omega (arith, top)
+overflow_mul-first-in-loop-s-2 c =
+    let a = c.args in omega (arith, row_at a.ways a.first a.rows c.loop-s-2.s (omega arith) (omega arith))
 
 pub offset_bounds-counts-first-in-loop-s-2 : goal.offset_bounds-counts-first-in-loop-s-2
-offset_bounds-counts-first-in-loop-s-2 c = let top : (let a = c.args in let r = a.first + c.loop-s-2.s in
-    (r ≤ r * a.ways) × (r * a.ways + a.ways ≤ (a.first + a.rows) * a.ways)) =
-    let a = c.args in
-    let r = a.first + c.loop-s-2.s in
-    (row_le r a.ways (omega arith), row_in r (a.first + a.rows) a.ways (omega arith)) in
-    omega (arith, top)
+offset_bounds-counts-first-in-loop-s-2 c =
+    let a = c.args in omega (arith, row_at a.ways a.first a.rows c.loop-s-2.s (omega arith) (omega arith))
 
 pub bounds-counts-first-in-loop-s-2 : goal.bounds-counts-first-in-loop-s-2
-bounds-counts-first-in-loop-s-2 c = let top : (let a = c.args in let r = a.first + c.loop-s-2.s in
-    (r ≤ r * a.ways) × (r * a.ways + a.ways ≤ (a.first + a.rows) * a.ways)) =
-    let a = c.args in
-    let r = a.first + c.loop-s-2.s in
-    (row_le r a.ways (omega arith), row_in r (a.first + a.rows) a.ways (omega arith)) in
-    omega (arith, top)
+bounds-counts-first-in-loop-s-2 c =
+    let a = c.args in omega (arith, row_at a.ways a.first a.rows c.loop-s-2.s (omega arith) (omega arith))

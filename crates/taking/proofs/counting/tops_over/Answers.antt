@@ -1,5 +1,5 @@
 -- `tops_over` meets its contract: `over` tells whether some count of the rows passed is over. Assumes nothing.
-use Prim.Native.Nat.{ℕ, ◌≤◌, ◌+◌, ◌*◌}
+use Prim.Native.Nat.{ℕ}
 use mathlib.Core.Path.{◌≡◌, sym, ap, ◌∙◌}
 use native.Mathlib.Omega.{arith}
 use borrow.Author.Rules.{rules}
@@ -33,16 +33,10 @@ pub loop-s-init : goal.loop-s-init
 loop-s-init c = (search rules, sym (any_none _))
 
 pub overflow_mul-s : goal.overflow_mul-s
-overflow_mul-s c = let inside : (let a = c.args in c.loop-s.s * a.ways + a.ways ≤ a.rows * a.ways) =
-    row_in c.loop-s.s c.args.rows c.args.ways (omega arith) in
-    omega (arith, inside)
+overflow_mul-s c = omega (arith, row_in c.loop-s.s c.args.rows c.args.ways (omega arith))
 
 pub offset_bounds-counts-s : goal.offset_bounds-counts-s
-offset_bounds-counts-s c = let inside : (let a = c.args in c.loop-s.s * a.ways + a.ways ≤ a.rows * a.ways) =
-    row_in c.loop-s.s c.args.rows c.args.ways (omega arith) in
-    omega (arith, inside)
+offset_bounds-counts-s c = omega (arith, row_in c.loop-s.s c.args.rows c.args.ways (omega arith))
 
 pub bounds-counts-s : goal.bounds-counts-s
-bounds-counts-s c = let inside : (let a = c.args in c.loop-s.s * a.ways + a.ways ≤ a.rows * a.ways) =
-    row_in c.loop-s.s c.args.rows c.args.ways (omega arith) in
-    omega (arith, inside)
+bounds-counts-s c = omega (arith, row_in c.loop-s.s c.args.rows c.args.ways (omega arith))
