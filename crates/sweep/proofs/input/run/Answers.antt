@@ -1,5 +1,5 @@
 -- The input's end, its refusal, and a turn more. Assumes nothing.
-use Rattle.std.proofs.Common.{take, arith}
+use Rattle.std.proofs.Common.{◌≡◌, true, rules, take, arith}
 use lib.Seq.{length-take-le}
 use Rattle.sweep.proofs.ProgressLaws.{from_none, from_more, read_less, read_refused, read_ended, refused_over, ended_over}
 use Rattle.sweep.proofs.input.run.Goals as goal
@@ -14,7 +14,8 @@ returns-then-came-2 g c =
     let came = c.read_more-came in
     let k = c.feed-feeding in
     let slice = take came.result.len came.new.chunk in
-    let last = came.ensures.came.end c.if-came.false c.if-came-2.true in
+    let ended : came.result.last ≡ true = search rules in
+    let last = came.ensures.came.end c.if-came.false ended in
     record {
       ran = λ z.
           read_ended c.args.stacks.now c.args.counts.now l.feeding l.stacks l.counts l.invariant.read slice
@@ -22,7 +23,7 @@ returns-then-came-2 g c =
       ran_over = λ z.
           ended_over (g.R.Read.remaining c.args.input.now) (g.R.Read.remaining l.input) c.args.stacks.now c.args.counts.now
           l.feeding l.stacks l.counts l.invariant slice k.result k.new.stacks k.new.counts k.ensures (g.R.Read.remaining came.new.input)
-          (came.ensures.drawn.none_left c.if-came.false c.if-came-2.true) last c.ended-ended.result c.ended-ended.ensures;
+          (came.ensures.drawn.none_left c.if-came.false ended) last c.ended-ended.result c.ended-ended.ensures;
     }
 
 pub returns-then-answer-ne0 : goal.returns-then-answer-ne0
