@@ -1,7 +1,7 @@
 -- `take_deep` meets its contract: what the walks found is the page's, so the tests are, and what is raised and moved. Assumes nothing.
 use Prim.Native.Nat.{ℕ, ◌+◌, ◌≤◌}
 use mathlib.Core.Path.{◌≡◌, refl, sym, ap, ap₂, ◌∙◌, subst, subst₂}
-use mathlib.Core.Bool.{true, false}
+use mathlib.Core.Bool.{Bool, true, false}
 use mathlib.Core.List.{List}
 use native.Mathlib.Omega.{arith}
 use lib.Dec.{leb}
@@ -13,248 +13,117 @@ use Rattle.lists.proofs.ZeroLaws.{zeros_at}
 use Rattle.cache.specs.Cache.{block_of}
 use Rattle.order.specs.Limits.{sizes as sizesOf, rows as rows_of}
 use Rattle.taking.specs.Places.{block_at, full_at}
-use Rattle.taking.specs.Plain.{over_all}
-use Rattle.taking.specs.Parts.{count_most, Looked, Tabled, AllMoved, wider_by, found_by, deep_by}
+use Rattle.taking.specs.Plain.{over_all, counts_done}
+use Rattle.taking.specs.Parts.{count_most, Fit, Looked, Roomed, Tabled, AllMoved, wider_by, found_by, deep_by}
+use Rattle.taking.specs.declared.Opened.{Opened}
 use Rattle.taking.proofs.NeedLaws.{fit_walk, grid_of_lem}
 use Rattle.taking.proofs.OutcomeLaws.{answer_late, refused, done, same_blocks}
 use Rattle.taking.proofs.OutcomeLaws.{full_is, over_is, counts_is, falling_of, raisable_of, room_of}
 use Rattle.taking.proofs.Opened.take_deep.Goals as goal
 
+-- the blocks of the address are those that the walks looked for
+seen_at : (v : Opened) (a first : ℕ) {st ps ds : List ℕ} → first ≡ block_of v.order.bmin.0 a → Looked v st (wider_by first) ps ds
+    → Looked v st (block_at v a) ps ds
+seen_at v a first {st = st} {ps = ps} {ds = ds} e looked = subst (λ (x : ℕ → ℕ). Looked v st x ps ds) (same_blocks v a first e) looked
+
+-- state v fits its stacks st and m counts, and the walks have left the places ps and the depths ds; n and r are the code's sizes and rows
+module _ {v : Opened} {st ps ds : List ℕ} {m n r : ℕ} {x : ℕ → ℕ} (f : Fit v (length st) m) (looked : Looked v st x ps ds)
+    (sizes : n ≡ sizesOf v.order) (rows : r ≡ rows_of v.order) where
+  -- the tables and the scratch have the lengths that the counting asks for
+  tabled : length v.used ≡ 8 → length ps ≡ 8 → length ds ≡ 120 → Tabled n r v.order.ways m v.used ps ds
+  tabled eight places depths = rw (sizes, rows) (record {
+    grid = grid_of_lem v (length st) m f;
+    used = eight;
+    places = places;
+    depths = depths;
+    falling = falling_of v st x m ps ds f looked;
+  })
+
+  -- where no walk left at room or past it, the stacks can move
+  roomed : length v.used ≡ 8 → length ps ≡ 8 → any_to n (λ (k : ℕ). leb v.order.room (get_or ps k 0)) ≡ false
+      → Roomed n v.order.room x st v.used ps
+  roomed eight places none =
+      rw sizes (room_of v st x m ps ds f looked eight places
+      (ap (λ (j : ℕ). any_to j (λ (k : ℕ). leb v.order.room (get_or ps k 0))) (sym sizes) ∙ none))
+
+  -- the code's tests are the page's
+  full_here : {t : Bool} → t ≡ any_to n (λ (k : ℕ). leb v.order.room (get_or ps k 0)) → any_to (sizesOf v.order) (full_at v st x) ≡ t
+  full_here e =
+      sym (e ∙ ap (λ (j : ℕ). any_to j (λ (k : ℕ). leb v.order.room (get_or ps k 0))) sizes ∙ full_is v st x m ps ds f looked)
+
+  over_here : (ct : List ℕ) {t : Bool} → t ≡ over_groups v.order.ways r (found_by v.used ps) (deep_by ds) v.taken n ct
+      → over_all v st ct x ≡ t
+  over_here ct e =
+      sym
+      (e ∙ ap₂ (λ (j i : ℕ). over_groups v.order.ways i (found_by v.used ps) (deep_by ds) v.taken j ct) sizes rows
+      ∙ over_is v st x m ps ds f looked ct)
+
+  -- and so are the counts after it
+  raised_here : (ct : List ℕ) {new : List ℕ} → new ≡ raised_groups v.order.ways r (found_by v.used ps) (deep_by ds) n ct
+      → new ≡ counts_done v st ct x
+  raised_here ct e =
+      e ∙ ap₂ (λ (j i : ℕ). raised_groups v.order.ways i (found_by v.used ps) (deep_by ds) j ct) sizes rows
+      ∙ counts_is v st x m ps ds f looked ct
+
 -- ---- what the calls require
 pub look-requires : goal.look-requires
 look-requires c = (fit_walk _ _ _ c.requires.0, record { places = refl; depths = refl; zero = zeros_at 120 })
 
-pub is_full-requires : goal.is_full-requires
-is_full-requires c =
-    let sizes = c.sizes-sizes.ensures in
-    (omega (arith, sizes, c.requires.0.numbers), c.look.auto.places)
-
 pub is_over-requires : goal.is_over-requires
 is_over-requires c =
-    let places_of : List ℕ =
-    c.look.new.places in
-    let depths_of : List ℕ =
-    c.look.new.depths in
-    let eight : length c.args.self.used ≡ 8 =
-    let good = c.well_formed in search rules in
-    let tabled : (let b = c.args in let o = b.self.order in
-    Tabled (sizesOf o) (rows_of o) o.ways (length b.counts.now) b.self.used places_of depths_of) =
-    let b = c.args in
-    let n = length b.stacks.now in
-    let m = length b.counts.now in
-    let f = c.requires.0 in
-    record {
-      grid = grid_of_lem b.self n m f;
-      used = eight;
-      places = c.look.auto.places;
-      depths = c.look.auto.depths;
-      falling = falling_of b.self b.stacks.now (wider_by b.first.0) m places_of depths_of f c.look.ensures;
-    } in
-    rw (c.sizes-sizes.ensures, c.rows-rows.ensures) tabled
+    tabled c.requires.0 c.look.ensures c.sizes-sizes.ensures c.rows-rows.ensures (search (rules, c.well_formed)) c.look.auto.places
+    c.look.auto.depths
 
 pub raise_all-requires : goal.raise_all-requires
 raise_all-requires c =
-    let places_of : List ℕ =
-    c.look.new.places in
-    let depths_of : List ℕ =
-    c.look.new.depths in
-    let eight : length c.args.self.used ≡ 8 =
-    let good = c.well_formed in search rules in
-    let tabled : (let b = c.args in let o = b.self.order in
-    Tabled (sizesOf o) (rows_of o) o.ways (length b.counts.now) b.self.used places_of depths_of) =
-    let b = c.args in
-    let n = length b.stacks.now in
-    let m = length b.counts.now in
     let f = c.requires.0 in
+    let small : c.args.self.taken ≤ count_most = omega (arith, f.numbers, f.ceiling) in
     record {
-      grid = grid_of_lem b.self n m f;
-      used = eight;
-      places = c.look.auto.places;
-      depths = c.look.auto.depths;
-      falling = falling_of b.self b.stacks.now (wider_by b.first.0) m places_of depths_of f c.look.ensures;
-    } in
-    let over : (let v = c.args.self in
-    c.is_over.result
-    ≡ over_groups v.order.ways (rows_of v.order) (found_by v.used places_of) (deep_by depths_of) v.taken (sizesOf v.order)
-    c.args.counts.now) =
-    let v = c.args.self in
-    c.is_over.ensures
-    ∙ ap₂ (λ (n r : ℕ). over_groups v.order.ways r (found_by v.used places_of) (deep_by depths_of) v.taken n
-    c.args.counts.now)
-    c.sizes-sizes.ensures c.rows-rows.ensures in
-    let v = c.args.self in
-    let f = c.requires.0 in
-    let none = sym over ∙ c.if-is_over.false in
-    let small : v.taken ≤ count_most = omega (arith, f.numbers, f.ceiling) in
-    rw (c.sizes-sizes.ensures, c.rows-rows.ensures) (record {
-      tabled = tabled;
-      all_raisable =
-          raisable_of (sizesOf v.order) (rows_of v.order) v.order.ways v.taken c.args.counts.now
-          (found_by v.used places_of) (deep_by depths_of) small none;
-    })
+      tabled =
+          tabled f c.look.ensures c.sizes-sizes.ensures c.rows-rows.ensures (search (rules, c.well_formed)) c.look.auto.places
+          c.look.auto.depths;
+      all_raisable = raisable_of _ _ _ _ _ _ _ small (sym c.is_over.ensures ∙ c.if-is_over.false);
+    }
 
 pub move_all-requires : goal.move_all-requires
 move_all-requires c =
-    let places_of : List ℕ =
-    c.look.new.places in
-    let depths_of : List ℕ =
-    c.look.new.depths in
-    let eight : length c.args.self.used ≡ 8 =
-    let good = c.well_formed in search rules in
-    let full : (let o = c.args.self.order in
-    c.is_full.result ≡ any_to (sizesOf o) (λ (k : ℕ). leb o.room (get_or places_of k 0))) =
-    let sizes = c.sizes-sizes.ensures in
-    c.is_full.ensures ∙ ap (λ (n : ℕ). any_to n (λ (k : ℕ). leb c.args.self.order.room (get_or places_of k 0))) sizes in
-    let b = c.args in
-    let sizes = c.sizes-sizes.ensures in
-    let none = sym full ∙ c.if-is_full.false in
-    rw sizes
-    (room_of b.self b.stacks.now (wider_by b.first.0) (length b.counts.now) places_of depths_of c.requires.0
-    c.look.ensures
-    eight c.look.auto.places none)
-
-pub slice_bounds-move_all-end : goal.slice_bounds-move_all-end
-slice_bounds-move_all-end c =
-    let eight : length c.args.self.used ≡ 8 =
-    let good = c.well_formed in search rules in
-    sym eight
-
--- one reference more is within 32 bits
-pub overflow_add-result : goal.overflow_add-result
-overflow_add-result c = omega (arith, c.requires.0.numbers, c.requires.1)
+    roomed c.requires.0 c.look.ensures c.sizes-sizes.ensures c.rows-rows.ensures (search (rules, c.well_formed)) c.look.auto.places
+    (sym c.is_full.ensures ∙ c.if-is_full.false)
 
 -- ---- the returns
 pub returns-then-is_full : goal.returns-then-is_full
-returns-then-is_full c =
-    let places_of : List ℕ =
-    c.look.new.places in
-    let depths_of : List ℕ =
-    c.look.new.depths in
-    let seen : (a : ℕ) → c.args.first.0 ≡ block_of c.args.self.order.bmin.0 a
-    → Looked c.args.self c.args.stacks.now (block_at c.args.self a) places_of depths_of =
-    λ a e. let b = c.args in
-    subst (λ (x : ℕ → ℕ). Looked b.self b.stacks.now x places_of depths_of) (same_blocks b.self a b.first.0 e) c.look.ensures in
-    let full : (let o = c.args.self.order in
-    c.is_full.result ≡ any_to (sizesOf o) (λ (k : ℕ). leb o.room (get_or places_of k 0))) =
-    let sizes = c.sizes-sizes.ensures in
-    c.is_full.ensures ∙ ap (λ (n : ℕ). any_to n (λ (k : ℕ). leb c.args.self.order.room (get_or places_of k 0))) sizes in
-    let full_at_lem : (a : ℕ) → (let b = c.args in
-    b.first.0 ≡ block_of b.self.order.bmin.0 a
-    → any_to (sizesOf b.self.order) (full_at b.self b.stacks.now (block_at b.self a)) ≡ c.is_full.result) =
-    λ a e. let b = c.args in
-    sym (full ∙ full_is b.self b.stacks.now (block_at b.self a) (length b.counts.now) places_of depths_of c.requires.0
-    (seen a e)) in
+returns-then-is_full c = λ a e.
     let b = c.args in
-    λ a e.
-    refused b.self b.stacks.now b.counts.now a 6
-    (sym (answer_late b.self b.stacks.now b.counts.now a c.requires.0 c.requires.1 true _
-    (full_at_lem a e ∙ c.if-is_full.true) refl))
+    let f = c.requires.0 in
+    let full =
+    full_here f (seen_at b.self a b.first.0 e c.look.ensures) c.sizes-sizes.ensures c.rows-rows.ensures c.is_full.ensures
+    ∙ c.if-is_full.true in
+    refused b.self b.stacks.now b.counts.now a 6 (sym (answer_late b.self b.stacks.now b.counts.now a f c.requires.1 true _ full refl))
     (λ z. omega arith)
 
 pub returns-then-is_over : goal.returns-then-is_over
-returns-then-is_over c =
-    let places_of : List ℕ =
-    c.look.new.places in
-    let depths_of : List ℕ =
-    c.look.new.depths in
-    let seen : (a : ℕ) → c.args.first.0 ≡ block_of c.args.self.order.bmin.0 a
-    → Looked c.args.self c.args.stacks.now (block_at c.args.self a) places_of depths_of =
-    λ a e. let b = c.args in
-    subst (λ (x : ℕ → ℕ). Looked b.self b.stacks.now x places_of depths_of) (same_blocks b.self a b.first.0 e) c.look.ensures in
-    let full : (let o = c.args.self.order in
-    c.is_full.result ≡ any_to (sizesOf o) (λ (k : ℕ). leb o.room (get_or places_of k 0))) =
-    let sizes = c.sizes-sizes.ensures in
-    c.is_full.ensures ∙ ap (λ (n : ℕ). any_to n (λ (k : ℕ). leb c.args.self.order.room (get_or places_of k 0))) sizes in
-    let full_at_lem : (a : ℕ) → (let b = c.args in
-    b.first.0 ≡ block_of b.self.order.bmin.0 a
-    → any_to (sizesOf b.self.order) (full_at b.self b.stacks.now (block_at b.self a)) ≡ c.is_full.result) =
-    λ a e. let b = c.args in
-    sym (full ∙ full_is b.self b.stacks.now (block_at b.self a) (length b.counts.now) places_of depths_of c.requires.0
-    (seen a e)) in
-    let over : (let v = c.args.self in
-    c.is_over.result
-    ≡ over_groups v.order.ways (rows_of v.order) (found_by v.used places_of) (deep_by depths_of) v.taken (sizesOf v.order)
-    c.args.counts.now) =
-    let v = c.args.self in
-    c.is_over.ensures
-    ∙ ap₂ (λ (n r : ℕ). over_groups v.order.ways r (found_by v.used places_of) (deep_by depths_of) v.taken n
-    c.args.counts.now)
-    c.sizes-sizes.ensures c.rows-rows.ensures in
-    let over_at_lem : (a : ℕ)
-    → (let b = c.args in
-    b.first.0 ≡ block_of b.self.order.bmin.0 a
-    → over_all b.self b.stacks.now b.counts.now (block_at b.self a) ≡ c.is_over.result) =
-    λ a e. let b = c.args in
-    sym (over ∙ over_is b.self b.stacks.now (block_at b.self a) (length b.counts.now) places_of depths_of c.requires.0
-    (seen a e) b.counts.now) in
+returns-then-is_over c = λ a e.
     let b = c.args in
-    λ a e.
-    refused b.self b.stacks.now b.counts.now a 7
-    (sym (answer_late b.self b.stacks.now b.counts.now a c.requires.0 c.requires.1 false true
-    (full_at_lem a e ∙ c.if-is_full.false) (over_at_lem a e ∙ c.if-is_over.true)))
+    let f = c.requires.0 in
+    let seen = seen_at b.self a b.first.0 e c.look.ensures in
+    let full = full_here f seen c.sizes-sizes.ensures c.rows-rows.ensures c.is_full.ensures ∙ c.if-is_full.false in
+    let over = over_here f seen c.sizes-sizes.ensures c.rows-rows.ensures _ c.is_over.ensures ∙ c.if-is_over.true in
+    refused b.self b.stacks.now b.counts.now a 7 (sym (answer_late b.self b.stacks.now b.counts.now a f c.requires.1 false true full over))
     (λ z. omega arith)
 
 pub returns : goal.returns
-returns c =
-    let places_of : List ℕ =
-    c.look.new.places in
-    let depths_of : List ℕ =
-    c.look.new.depths in
-    let seen : (a : ℕ) → c.args.first.0 ≡ block_of c.args.self.order.bmin.0 a
-    → Looked c.args.self c.args.stacks.now (block_at c.args.self a) places_of depths_of =
-    λ a e. let b = c.args in
-    subst (λ (x : ℕ → ℕ). Looked b.self b.stacks.now x places_of depths_of) (same_blocks b.self a b.first.0 e) c.look.ensures in
-    let full : (let o = c.args.self.order in
-    c.is_full.result ≡ any_to (sizesOf o) (λ (k : ℕ). leb o.room (get_or places_of k 0))) =
-    let sizes = c.sizes-sizes.ensures in
-    c.is_full.ensures ∙ ap (λ (n : ℕ). any_to n (λ (k : ℕ). leb c.args.self.order.room (get_or places_of k 0))) sizes in
-    let full_at_lem : (a : ℕ) → (let b = c.args in
-    b.first.0 ≡ block_of b.self.order.bmin.0 a
-    → any_to (sizesOf b.self.order) (full_at b.self b.stacks.now (block_at b.self a)) ≡ c.is_full.result) =
-    λ a e. let b = c.args in
-    sym (full ∙ full_is b.self b.stacks.now (block_at b.self a) (length b.counts.now) places_of depths_of c.requires.0
-    (seen a e)) in
-    let over : (let v = c.args.self in
-    c.is_over.result
-    ≡ over_groups v.order.ways (rows_of v.order) (found_by v.used places_of) (deep_by depths_of) v.taken (sizesOf v.order)
-    c.args.counts.now) =
-    let v = c.args.self in
-    c.is_over.ensures
-    ∙ ap₂ (λ (n r : ℕ). over_groups v.order.ways r (found_by v.used places_of) (deep_by depths_of) v.taken n
-    c.args.counts.now)
-    c.sizes-sizes.ensures c.rows-rows.ensures in
-    let over_at_lem : (a : ℕ)
-    → (let b = c.args in
-    b.first.0 ≡ block_of b.self.order.bmin.0 a
-    → over_all b.self b.stacks.now b.counts.now (block_at b.self a) ≡ c.is_over.result) =
-    λ a e. let b = c.args in
-    sym (over ∙ over_is b.self b.stacks.now (block_at b.self a) (length b.counts.now) places_of depths_of c.requires.0
-    (seen a e) b.counts.now) in
+returns c = λ a e.
     let b = c.args in
     let v = b.self in
     let st = b.stacks.now in
     let ct = b.counts.now in
     let f = c.requires.0 in
-    λ a e.
-    let x = same_blocks v a b.first.0 e in
+    let seen = seen_at v a b.first.0 e c.look.ensures in
+    let full = full_here f seen c.sizes-sizes.ensures c.rows-rows.ensures c.is_full.ensures ∙ c.if-is_full.false in
+    let over = over_here f seen c.sizes-sizes.ensures c.rows-rows.ensures ct c.is_over.ensures ∙ c.if-is_over.false in
+    let counts = raised_here f seen c.sizes-sizes.ensures c.rows-rows.ensures ct c.raise_all.ensures in
     let all = subst₂ (λ (n : ℕ) (y : ℕ → ℕ). AllMoved n v.order.room y st v.used c.move_all.new.stacks c.move_all.new.used)
-    c.sizes-sizes.ensures x c.move_all.ensures in
-    let counts =
-    c.raise_all.ensures
-    ∙ ap₂ (λ (n r : ℕ). raised_groups v.order.ways r (found_by v.used places_of) (deep_by depths_of) n ct) c.sizes-sizes.ensures
-    c.rows-rows.ensures
-    ∙ counts_is v st (block_at v a) (length ct) places_of depths_of f (seen a e) ct in
+    c.sizes-sizes.ensures (same_blocks v a b.first.0 e) c.move_all.ensures in
     done v st ct a (record { order = v.order; taken = v.taken + 1; used = c.move_all.new.used }) c.move_all.new.stacks
-    c.raise_all.new.counts f
-    (answer_late v st ct a f c.requires.1 false false (full_at_lem a e ∙ c.if-is_full.false) (over_at_lem a e ∙ c.if-is_over.false))
+    c.raise_all.new.counts f (answer_late v st ct a f c.requires.1 false false full over)
     (ap (λ (u : List ℕ). record { order = v.order; taken = v.taken + 1; used = u }) all.used) all.stacks counts
-
-pub slice_bounds-is_over-end : goal.slice_bounds-is_over-end
-slice_bounds-is_over-end c = let eight : length c.args.self.used ≡ 8 =
-    let good = c.well_formed in search rules in
-    sym eight
-
-pub slice_bounds-raise_all-end : goal.slice_bounds-raise_all-end
-slice_bounds-raise_all-end c = let eight : length c.args.self.used ≡ 8 =
-    let good = c.well_formed in search rules in
-    sym eight
