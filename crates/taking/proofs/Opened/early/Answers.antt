@@ -1,76 +1,35 @@
 -- `early` meets its contract: each `return` has the tests that led to it. Assumes nothing.
 use mathlib.Core.Path.{◌≡◌, sym, ◌∙◌, ap}
-use mathlib.Core.Bool.{true, false, not}
+use mathlib.Core.Bool.{Bool, false, cond, not}
 use native.Mathlib.Omega.{arith}
-use lib.Dec.{ltb}
+use lib.Dec.{eqb}
 use borrow.Author.Tests.{eq-eqb, ne_eqb}
-use Rattle.lists.proofs.CompareLaws.{short_of, long_of}
-use Rattle.order.specs.Limits.{within, stack_need, count_need}
-use Rattle.order.proofs.LimitLaws.{within_no, within_test, within_yes}
-use Rattle.taking.specs.Taking.{is_foreign}
+use Rattle.lists.proofs.CompareLaws.{long_of}
+use Rattle.units.specs.Refusals.{refs_reached}
+use Rattle.order.specs.Limits.{count_need}
+use Rattle.order.proofs.LimitLaws.{within_test, within_yes}
+use Rattle.taking.specs.Parts.{early_answer}
 use Rattle.taking.proofs.Opened.early.Goals as goal
+use Rattle.taking.proofs.Opened.early.Goals.{After-is_foreign}
 
--- ---- the returns
-pub returns-then-not-is_within : goal.returns-then-not-is_within
-returns-then-not-is_within c = simp (within_no _ _ c.is_within.ensures (ap not c.if-not-is_within.true))
-
-pub returns-then-n-stack_need : goal.returns-then-n-stack_need
-returns-then-n-stack_need c =
-    let fits : within c.args.self.order ≡ true =
-    within_test _ _ c.is_within.ensures (ap not c.if-not-is_within.false) in
-    simp (fits, short_of c.stack_need.ensures c.if-n-stack_need.true)
-
-pub returns-then-m-count_need : goal.returns-then-m-count_need
-returns-then-m-count_need c =
-    let fits : within c.args.self.order ≡ true =
-    within_test _ _ c.is_within.ensures (ap not c.if-not-is_within.false) in
-    let long : (let a = c.args in ltb a.n (stack_need a.self.order) ≡ false) =
-    long_of c.stack_need.ensures c.if-n-stack_need.false in
-    let need : c.count_need.result ≡ count_need c.args.self.order =
-    c.count_need.ensures ∙ simp fits in
-    simp (fits, long, short_of need c.if-m-count_need.true)
+-- refusals 1 to 4 do not apply: whether the references are reached decides
+last : (c : After-is_foreign) {reached : Bool} → c.is_foreign.result ≡ false → eqb c.args.self.taken c.args.self.order.refs ≡ reached
+    → early_answer c.args.self c.args.n c.args.m ≡ cond reached refs_reached 0
+last c own e =
+    let fits = within_test _ _ c.is_within.ensures (ap not c.if-not-is_within.false) in
+    let need : c.count_need.result ≡ count_need c.args.self.order = c.count_need.ensures ∙ simp fits in
+    let wide = long_of need c.if-m-count_need.false in
+    simp (fits, long_of c.stack_need.ensures c.if-n-stack_need.false, wide, sym c.is_foreign.ensures ∙ own, e)
 
 pub is_foreign-requires : goal.is_foreign-requires
 is_foreign-requires c = omega (arith, within_yes _ _ c.is_within.ensures (ap not c.if-not-is_within.false))
 
-pub returns-then-is_foreign : goal.returns-then-is_foreign
-returns-then-is_foreign c =
-    let fits : within c.args.self.order ≡ true =
-    within_test _ _ c.is_within.ensures (ap not c.if-not-is_within.false) in
-    let long : (let a = c.args in ltb a.n (stack_need a.self.order) ≡ false) =
-    long_of c.stack_need.ensures c.if-n-stack_need.false in
-    let need : c.count_need.result ≡ count_need c.args.self.order =
-    c.count_need.ensures ∙ simp fits in
-    let wide : (let a = c.args in ltb a.m (count_need a.self.order) ≡ false) =
-    long_of need c.if-m-count_need.false in
-    simp (fits, long, wide, sym c.is_foreign.ensures ∙ c.if-is_foreign.true)
-
 pub returns-then-taken-refs : goal.returns-then-taken-refs
 returns-then-taken-refs c =
-    let fits : within c.args.self.order ≡ true =
-    within_test _ _ c.is_within.ensures (ap not c.if-not-is_within.false) in
-    let long : (let a = c.args in ltb a.n (stack_need a.self.order) ≡ false) =
-    long_of c.stack_need.ensures c.if-n-stack_need.false in
-    let need : c.count_need.result ≡ count_need c.args.self.order =
-    c.count_need.ensures ∙ simp fits in
-    let wide : (let a = c.args in ltb a.m (count_need a.self.order) ≡ false) =
-    long_of need c.if-m-count_need.false in
-    let own : is_foreign c.args.self ≡ false =
-    sym c.is_foreign.ensures ∙ c.if-is_foreign.false in
-    let v = c.args.self in
-    simp (fits, long, wide, own, eq-eqb v.taken v.order.refs c.if-taken-refs.true)
+    let at = (goal.at.returns-then-taken-refs c).After-is_foreign in
+    sym (last at c.if-is_foreign.false (eq-eqb _ _ c.if-taken-refs.true))
 
 pub returns : goal.returns
 returns c =
-    let fits : within c.args.self.order ≡ true =
-    within_test _ _ c.is_within.ensures (ap not c.if-not-is_within.false) in
-    let long : (let a = c.args in ltb a.n (stack_need a.self.order) ≡ false) =
-    long_of c.stack_need.ensures c.if-n-stack_need.false in
-    let need : c.count_need.result ≡ count_need c.args.self.order =
-    c.count_need.ensures ∙ simp fits in
-    let wide : (let a = c.args in ltb a.m (count_need a.self.order) ≡ false) =
-    long_of need c.if-m-count_need.false in
-    let own : is_foreign c.args.self ≡ false =
-    sym c.is_foreign.ensures ∙ c.if-is_foreign.false in
-    let v = c.args.self in
-    simp (fits, long, wide, own, ne_eqb v.taken v.order.refs c.if-taken-refs.false)
+    let at = (goal.at.returns c).After-is_foreign in
+    sym (last at c.if-is_foreign.false (ne_eqb _ _ c.if-taken-refs.false))
