@@ -92,9 +92,6 @@ returns c =
 pub loop-s-init : goal.loop-s-init
 loop-s-init c = record { upto = search rules; long = refl; done = raised_none _ _ _ _ }
 
-pub overflow_cast-d : goal.overflow_cast-d
-overflow_cast-d c = omega (arith, c.shared_slice_known-1.given (c.args.at + c.loop-s.s))
-
 pub overflow_add-i : goal.overflow_add-i
 overflow_add-i c =
     let a = c.args in let d = depth_from a.at a.depths.now c.loop-s.s in

@@ -1,5 +1,4 @@
 -- `size_over` meets its contract: no count of the rows passed was over. Where the second loop starts, every depth to come is 0. Assumes nothing.
-use Prim.Native.Nat.{◌+◌}
 use mathlib.Core.Path.{sym, ◌∙◌}
 use native.Mathlib.Omega.{arith}
 use borrow.Author.Rules.{rules}
@@ -74,9 +73,6 @@ returns c =
 
 pub loop-s-init : goal.loop-s-init
 loop-s-init c = (search rules, any_none _)
-
-pub overflow_cast-d : goal.overflow_cast-d
-overflow_cast-d c = omega (arith, c.shared_slice_known-1.given (c.args.at + c.loop-s.s))
 
 pub overflow_add-first : goal.overflow_add-first
 overflow_add-first c =
