@@ -15,7 +15,9 @@ pub returns : goal.returns
 returns c =
     let a = c.args in
     let n = c.misses-counted.result.misses in
-    let some = ap (λ (t : Bool). cond t (cache_line a.at.b a.at.s a.at.w n) []) (eq-eqb c.misses-counted.result.answer 0 c.if-counted-ne0.false) in
+    let done = eq-eqb c.misses-counted.result.answer 0 c.if-counted-ne0.false in
+    let some = ap (λ (t : Bool). cond t (cache_line a.at.b a.at.s a.at.w n) []) done in
     let given = cache_form_lem a.at.b a.at.s a.at.w n ∙ sym some ∙ ap (line_by a.at) c.misses-counted.ensures in
     let line = line_at a.opened a.counts.now a.at in
-    prints_form a.out.now c.if-out-lt-LINE_MOST.false cache_form (a.at.b ∷ a.at.s ∷ a.at.w ∷ n ∷ []) line given cache_most _ _ c.fill.ensures
+    let wide = c.if-out-lt-LINE_MOST.false in
+    prints_form a.out.now wide cache_form (a.at.b ∷ a.at.s ∷ a.at.w ∷ n ∷ []) line given cache_most _ _ c.fill.ensures

@@ -18,8 +18,9 @@ last : (c : After-is_foreign) {reached : Bool} → c.is_foreign.result ≡ false
 last c own e =
     let fits = within_test _ _ c.is_within.ensures (ap not c.if-not-is_within.false) in
     let need : c.count_need.result ≡ count_need c.args.self.order = c.count_need.ensures ∙ simp fits in
-    let wide = long_of need c.if-m-count_need.false in
-    simp (fits, long_of c.stack_need.ensures c.if-n-stack_need.false, wide, sym c.is_foreign.ensures ∙ own, e)
+    let long = long_of {n = c.args.n} c.stack_need.ensures (omega arith) in
+    let wide = long_of {n = c.args.m} need (omega arith) in
+    simp (fits, long, wide, sym c.is_foreign.ensures ∙ own, e)
 
 pub is_foreign-requires : goal.is_foreign-requires
 is_foreign-requires c = omega (arith, within_yes _ _ c.is_within.ensures (ap not c.if-not-is_within.false))
