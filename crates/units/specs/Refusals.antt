@@ -1,6 +1,8 @@
 -- The refusal numbers, each defined once (SCOPE, "Refusal numbers", whose sentences stand beside them); 11 is no longer given.
 -- Assumes nothing.
-use Rattle.std.specs.Prelude.{ℕ, Bool, ◌&&◌, leb}
+use Rattle.std.specs.Prelude.{ℕ, Bool, ◌&&◌, leb, Result, Ok, Err}
+use Rattle.units.specs.declared.refusal.Refusal.{Refusal}
+use Rattle.units.specs.declared.refusal.Refusal.TheVariants.{OutsideLimits, ShortStacks, ShortCounts, ForeignState, RefsReached, StackFull, CountOver, NotInOrder, NoReferences, BadOrderLine, ShortFilter, ShortOutput, BadLabel, BadGap, BadAddress, TooLong, TooManyLines}
 
 -- done
 abbrev pub done : ℕ
@@ -77,3 +79,34 @@ too_many_lines = 26
 -- 14 to 17, which a trace line is refused with: they alone are told with a column
 abbrev pub has_column : ℕ → Bool
 has_column n = leb bad_label n && leb n too_long
+
+-- ---- the refusals of the code, and what a call answers
+
+abbrev pub number_of : Refusal → ℕ
+number_of OutsideLimits = outside_limits
+number_of ShortStacks = short_stacks
+number_of ShortCounts = short_counts
+number_of ForeignState = foreign_state
+number_of RefsReached = refs_reached
+number_of StackFull = stack_full
+number_of CountOver = count_over
+number_of NotInOrder = not_in_order
+number_of NoReferences = no_references
+number_of BadOrderLine = bad_order_line
+number_of ShortFilter = short_filter
+number_of ShortOutput = short_output
+number_of BadLabel = bad_label
+number_of BadGap = bad_gap
+number_of BadAddress = bad_address
+number_of TooLong = too_long
+number_of TooManyLines = too_many_lines
+
+-- 0, or the number of the refusal
+abbrev pub answer_of : {A : Type 0} → Result A Refusal → ℕ
+answer_of (Ok x) = done
+answer_of (Err refusal) = number_of refusal
+
+-- what is given, or this beside a refusal
+abbrev pub value_or : {A : Type 0} → A → Result A Refusal → A
+value_or none (Ok x) = x
+value_or none (Err refusal) = none

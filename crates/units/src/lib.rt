@@ -6,26 +6,28 @@ ghost use Rattle.std.specs.Prelude.{◌≡◌};
 ghost use Rattle.cache.specs.Cache.{block_of, set_of};
 ghost use Rattle.units.specs.Exponents.{bytes_of};
 
+pub use refusal::Refusal;
+
 pub mod refusal;
 
 // A byte address, 0 to ffffffff (hex).
-#[derive(Clone, Copy)]
+#[derive(Clone, Copy, Debug, PartialEq, Eq)]
 pub struct Addr(pub u32);
 
 // The number of a block: an address divided by the block size.
-#[derive(Clone, Copy)]
+#[derive(Clone, Copy, Debug, PartialEq, Eq)]
 pub struct BlockNo(pub u32);
 
 // The number of a set: a block number modulo the number of sets.
-#[derive(Clone, Copy)]
+#[derive(Clone, Copy, Debug, PartialEq, Eq)]
 pub struct SetNo(pub u32);
 
 // A block size of 2^b bytes, by its exponent b. Only this is taken for a block size.
-#[derive(Clone, Copy)]
+#[derive(Clone, Copy, Debug, PartialEq, Eq)]
 pub struct ByteExp(pub u32);
 
 // Document 000's block size of 2^n words of 8 bytes, by its exponent n.
-#[derive(Clone, Copy)]
+#[derive(Clone, Copy, Debug, PartialEq, Eq)]
 pub struct WordExp(pub u32);
 
 impl Addr {
@@ -36,13 +38,7 @@ impl Addr {
     pub fn block(self, b: ByteExp) -> BlockNo
         ensures { result.0 ≡ block_of b.0 self.0 }
     {
-        let addr = self.0;
-        let bits = b.0;
-        if bits < 32 {
-            BlockNo(addr >> bits)
-        } else {
-            BlockNo(0)
-        }
+        BlockNo(self.0.checked_shr(b.0).unwrap_or(0))
     }
 }
 
@@ -51,23 +47,16 @@ impl BlockNo {
     pub fn wider(self, k: u32) -> BlockNo
         ensures { result.0 ≡ block_of k self.0 }
     {
-        let block = self.0;
-        if k < 32 {
-            BlockNo(block >> k)
-        } else {
-            BlockNo(0)
-        }
+        BlockNo(self.0.checked_shr(k).unwrap_or(0))
     }
 
     // The set of the block among 2^s sets.
     pub fn set(self, s: u32) -> SetNo
         ensures { result.0 ≡ set_of s self.0 }
     {
-        let block = self.0;
-        if s < 32 {
-            SetNo(block % (1u32 << s))
-        } else {
-            SetNo(block)
+        match 1u32.checked_shl(s) {
+            Some(sets) => SetNo(self.0 % sets),
+            None => SetNo(self.0),
         }
     }
 }
@@ -82,10 +71,6 @@ impl WordExp {
     pub fn in_bytes(self) -> ByteExp
         ensures { result.0 ≡ bytes_of self.0 }
     {
-        if self.0 < ByteExp::MOST - 3 {
-            ByteExp(self.0 + 3)
-        } else {
-            ByteExp(ByteExp::MOST)
-        }
+        ByteExp(self.0.saturating_add(3))
     }
 }
