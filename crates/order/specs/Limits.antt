@@ -1,10 +1,11 @@
 -- The limits of an order's numbers (SCOPE, "The order's numbers"), and what its constructor answers.
 -- Assumes nothing.
-use Rattle.std.specs.Prelude.{ℕ, ◌-◌, ◌+◌, ◌*◌, ◌≡◌, Bool, cond, not, List, [], ◌∷◌}
+use Rattle.std.specs.Prelude.{ℕ, ◌-◌, ◌+◌, ◌*◌, ◌≡◌, Bool, cond, not, List, [], ◌∷◌, Result}
+use Rattle.std.specs.Result.{result_unwrap_or}
 use Rattle.lists.specs.Tests.{first_of, all_le}
-use Rattle.units.specs.Refusals.{outside_limits}
+use Rattle.units.specs.declared.refusal.Refusal.{Refusal}
+use Rattle.units.specs.Refusals.{outside_limits, answer_of}
 use Rattle.order.specs.declared.Order.{Order}
-use Rattle.order.specs.declared.Checked.{Checked}
 
 -- the block sizes: bmin to bmax
 abbrev pub sizes : Order → ℕ
@@ -58,7 +59,7 @@ within o = all_le (limits o)
 abbrev pub zero_order : Order
 zero_order = record { bmin = record { 0 = 0 }; bmax = record { 0 = 0 }; smax = 0; ways = 0; room = 0; refs = 0 }
 
--- the constructor's answer for the order o: o itself within its limits, else 1 and zeros
-pub record Checks (o : Order) (r : Checked) : Type 0 where
-  pub answer : r.answer ≡ first_of ((not (within o), outside_limits) ∷ [])
-  pub order : r.order ≡ cond (within o) o zero_order
+-- THE CONTRACT of the constructor, for the order o: o itself within its limits, else 1; beside a refusal the order is zeros
+pub record Checks (o : Order) (r : Result Order Refusal) : Type 0 where
+  pub answer : answer_of r ≡ first_of ((not (within o), outside_limits) ∷ [])
+  pub order : result_unwrap_or r zero_order ≡ cond (within o) o zero_order

