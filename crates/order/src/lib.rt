@@ -96,49 +96,18 @@ impl Order {
     }
 
     // Every number is within its limits.
+    #[tactic(auto, unfolding(lists::specs::Tests::all_le))]
     pub fn is_within(self) -> bool
         ensures { result ≡ within self }
     {
-        let bmin = self.bmin.0;
-        let bmax = self.bmax.0;
-        let smax = self.smax;
-        let ways = self.ways;
-        let room = self.room;
-        let refs = self.refs;
-        if bmin < Order::B_LEAST {
-            return false;
-        }
-        if bmax > Order::B_MOST {
-            return false;
-        }
-        if bmin > bmax {
-            return false;
-        }
-        if (bmax - bmin) as usize >= Order::SIZES_MOST {
-            return false;
-        }
-        if smax > Order::S_MOST {
-            return false;
-        }
-        if ways < Order::WAYS_LEAST {
-            return false;
-        }
-        if ways > Order::WAYS_MOST {
-            return false;
-        }
-        if room < Order::ROOM_LEAST {
-            return false;
-        }
-        if room > Order::ROOM_MOST {
-            return false;
-        }
-        if refs < Order::REFS_LEAST {
-            return false;
-        }
-        if refs > Order::REFS_MOST {
-            return false;
-        }
-        true
+        self.bmin.0 >= Order::B_LEAST
+            && self.bmax.0 <= Order::B_MOST
+            && self.bmin.0 <= self.bmax.0
+            && self.sizes() <= Order::SIZES_MOST
+            && self.smax <= Order::S_MOST
+            && (Order::WAYS_LEAST..=Order::WAYS_MOST).contains(&self.ways)
+            && (Order::ROOM_LEAST..=Order::ROOM_MOST).contains(&self.room)
+            && (Order::REFS_LEAST..=Order::REFS_MOST).contains(&self.refs)
     }
 
     // The order of these numbers, where each is within its limits.
