@@ -12,12 +12,10 @@ use Rattle.lists.proofs.TestLaws.{none_first, settled_done, settled_not, all_fac
 use Rattle.cache.specs.Cache.{Given}
 use Rattle.order.specs.declared.Order.{Order}
 use Rattle.order.specs.Limits.{limits, within, stack_need, count_need}
-use Rattle.taking.specs.declared.Counted.{Counted}
-use Rattle.taking.specs.declared.Rated.{Rated}
 use Rattle.taking.specs.World.{World}
 use Rattle.taking.specs.Opening.{open_answer, opened, Opens}
-use Rattle.taking.specs.Questions.{misses_of}
-use Rattle.taking.specs.Ratios.{ratios_of}
+use Rattle.taking.specs.Questions.{Counted, misses_of}
+use Rattle.taking.specs.Ratios.{Rated, ratios_of}
 use Rattle.taking.specs.Taking.{Takes, take_answer, taken as taken_of}
 use Rattle.calls.specs.Calls.{Call, give, ask_misses, ask_ratios, handed_back, Calls, none, taken, refused, counted, rated}
 use Rattle.calls.proofs.HistoryLaws.{History, history_start, history_taken}

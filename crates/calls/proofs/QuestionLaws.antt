@@ -16,8 +16,7 @@ use Rattle.order.specs.declared.Order.{Order}
 use Rattle.order.specs.Limits.{limits, sizes, rows, count_need}
 use Rattle.sizes.specs.Size.{Size, hits_in}
 use Rattle.sizes.proofs.SizeLaws.{size_over, size_misses, size_hits}
-use Rattle.taking.specs.declared.Counted.{Counted}
-use Rattle.taking.specs.Questions.{asked, has, hits_of, misses_answer, misses_of}
+use Rattle.taking.specs.Questions.{Counted, asked, has, hits_of, misses_answer, misses_of}
 use Rattle.taking.specs.Ratios.{ratios_of, ratios_at, no_ratios}
 use Rattle.taking.specs.World.{World, size_at}
 use Rattle.taking.proofs.NeedLaws.{own_of}

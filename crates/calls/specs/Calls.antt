@@ -2,11 +2,9 @@
 -- A call is anything within its contract. Assumes nothing.
 use Rattle.std.specs.Prelude.{ℕ, suc, ◌≡◌, List, [], ◌∷◌}
 use Rattle.cache.specs.Cache.{Given}
-use Rattle.taking.specs.declared.Counted.{Counted}
 use Rattle.taking.specs.declared.Opened.{Opened}
-use Rattle.taking.specs.declared.Rated.{Rated}
-use Rattle.taking.specs.Questions.{misses_of}
-use Rattle.taking.specs.Ratios.{ratios_of}
+use Rattle.taking.specs.Questions.{Counted, misses_of}
+use Rattle.taking.specs.Ratios.{Rated, ratios_of}
 use Rattle.taking.specs.Taking.{Takes}
 use Rattle.taking.specs.World.{World, world}
 

@@ -19,13 +19,11 @@ use Rattle.cache.specs.Stack.{is_seen, seen_in}
 use Rattle.cache.proofs.SeenLaws.{seen_is, no_repeats}
 use Rattle.order.specs.declared.Order.{Order}
 use Rattle.order.specs.Limits.{sizes, stack_need, count_need}
-use Rattle.taking.specs.declared.Counted.{Counted}
 use Rattle.taking.specs.declared.Opened.{Opened}
-use Rattle.taking.specs.declared.Rated.{Rated}
 use Rattle.taking.specs.Places.{used_of, stack_at, block_at, full_at}
 use Rattle.taking.specs.Opening.{Opens, open_answer, opened}
-use Rattle.taking.specs.Questions.{has, hits_of, misses_answer, misses_of}
-use Rattle.taking.specs.Ratios.{ratios_answer, ratios_of, ratios_at, no_ratios}
+use Rattle.taking.specs.Questions.{Counted, has, hits_of, misses_answer, misses_of}
+use Rattle.taking.specs.Ratios.{Rated, ratios_answer, ratios_of, ratios_at, no_ratios}
 use Rattle.taking.specs.Taking.{Takes, taken, take_answer}
 use Rattle.taking.specs.Parts.{unflushable}
 use Rattle.taking.specs.World.{World, world}

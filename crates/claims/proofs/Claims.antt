@@ -19,14 +19,12 @@ use Rattle.order.specs.declared.Order.{Order}
 use Rattle.order.specs.Limits.{within, zero_order, sizes, stack_need, count_need}
 use Rattle.sizes.specs.Size.{is_over}
 use Rattle.taking.specs.declared.Opened.{Opened}
-use Rattle.taking.specs.declared.Counted.{Counted}
-use Rattle.taking.specs.declared.Rated.{Rated}
 use Rattle.taking.specs.Places.{used_of, stack_at, block_at, full_at}
 use Rattle.taking.specs.World.{World, world}
 use Rattle.taking.specs.Opening.{Opens, open_answer, unopened}
 use Rattle.taking.specs.Taking.{Takes, is_foreign, some_size}
-use Rattle.taking.specs.Questions.{has, hits_of, misses_of}
-use Rattle.taking.specs.Ratios.{ratios_of, ratios_at, no_ratios}
+use Rattle.taking.specs.Questions.{Counted, has, hits_of, misses_of}
+use Rattle.taking.specs.Ratios.{Rated, ratios_of, ratios_at, no_ratios}
 use Rattle.taking.proofs.TakenLaws.{take_answer_in_words}
 use Rattle.calls.specs.Calls.{Call, Calls}
 use Rattle.calls.proofs.CallLaws.{call_refused, calls_there}

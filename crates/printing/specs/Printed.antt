@@ -3,9 +3,8 @@ use Rattle.std.specs.Prelude.{ℕ, zero, suc, ◌+◌, ◌/◌, ◌%◌, ◌^◌
 use Prim.Native.Char.{code}
 use Rattle.units.specs.Refusals.{has_column}
 use Rattle.lines.specs.Bytes.{text}
-use Rattle.taking.specs.declared.Counted.{Counted}
 use Rattle.taking.specs.declared.Opened.{Opened}
-use Rattle.taking.specs.Questions.{misses_of}
+use Rattle.taking.specs.Questions.{Counted, misses_of}
 use Rattle.reading.specs.declared.Reading.{Reading}
 use Rattle.reading.specs.declared.Tally.{Tally}
 use Rattle.printing.specs.declared.Walk.{Walk}

@@ -16,8 +16,7 @@ use Rattle.taking.specs.World.{World}
 use Rattle.taking.specs.Opening.{unopened}
 use Rattle.order.specs.declared.Order.{Order}
 use Rattle.order.specs.Limits.{limits}
-use Rattle.taking.specs.Questions.{has, misses_of}
-use Rattle.taking.specs.declared.Counted.{Counted}
+use Rattle.taking.specs.Questions.{Counted, has, misses_of}
 use Rattle.lines.specs.declared.Kinds.{Kinds}
 use Rattle.lines.specs.declared.OrderLine.{OrderLine}
 use Rattle.lines.specs.OrderLine.{order_line_of}

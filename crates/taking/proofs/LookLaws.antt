@@ -1,7 +1,7 @@
 -- The loops of `look`: what the walks know on their way, and what they come to. Each break of the walk gives `Left`.
 -- Assumes nothing.
 use Prim.Native.Nat.{ℕ, suc, ◌+◌, ◌*◌, ◌≤◌, ◌<◌}
-use mathlib.Core.Path.{◌≡◌, refl, sym, ap, ◌∙◌}
+use mathlib.Core.Path.{◌≡◌, sym, ap, ◌∙◌}
 use mathlib.Core.Bool.{false, cond}
 use mathlib.Core.List.{List}
 use native.Mathlib.Numerals.{add-one}
@@ -21,7 +21,7 @@ use Rattle.cache.specs.Cache.{set_of}
 use Rattle.cache.proofs.SetLaws.{shared}
 use Rattle.order.specs.Limits.{sizes, rows}
 use Rattle.taking.specs.Places.{used_of, stack_at, depth_at}
-use Rattle.taking.specs.Parts.{Looked, Fit}
+use Rattle.taking.specs.Parts.{Fit}
 use Rattle.taking.specs.declared.Opened.{Opened}
 use Rattle.taking.proofs.NeedLaws.{stack_fits}
 
@@ -60,16 +60,6 @@ pub read_stack : (v : Opened) (st : List ℕ) (k i : ℕ) → i < used_of v k �
 read_stack v st k i h = part_at (k * v.order.room) (used_of v k) st i h
 
 module _ (v : Opened) (st : List ℕ) (x : ℕ → ℕ) (m k : ℕ) (f : Fit v (length st) m) (h : k < sizes v.order) where
-  pub walk_start : (ps ds : List ℕ) → Sizes v st x k ps ds → Walking v st x k 0 ds
-  walk_start ps ds z = record {
-    inside = omega arith;
-    long = z.long;
-    deep = z.deep;
-    blank = λ t g. z.blank t (omega arith);
-    absent = refl;
-    counted = λ s g. z.blank (k * 15 + s) (omega arith);
-  }
-
   module _ (i : ℕ) (ds : List ℕ) (w : Walking v st x k i ds) where
     pub count_small : (s : ℕ) → s < rows v.order → get_or ds (k * 15 + s) 0 ≤ i
     count_small s g =
@@ -158,7 +148,3 @@ module _ (v : Opened) (st : List ℕ) (x : ℕ → ℕ) (m k : ℕ) (f : Fit v (
           cases (eqb j k)
           (λ e. rw (eqb-true j k e) (l.here s p))
           (λ e. let q : j ≡ k → ⊥ = eqb-false j k e in l.deep j s (omega (arith, q)) p)
-
--- all sizes done
-pub looked_of : (v : Opened) (st : List ℕ) (x : ℕ → ℕ) (k : ℕ) (ps ds : List ℕ) → Sizes v st x k ps ds → sizes v.order ≤ k → Looked v st x ps ds
-looked_of v st x k ps ds z h = record { place = λ j g. z.place j (omega arith); deep = λ j s g p. z.deep j s (omega arith) p }

@@ -13,7 +13,6 @@ use Rattle.lists.specs.Tests.{any_to}
 use Rattle.lists.proofs.BoolLaws.{or_none, or_both}
 use Rattle.lists.proofs.PartLaws.{row_in, rows_le}
 use Rattle.lists.proofs.TestLaws.{all_facts, all_yes, none_first, any_not, any_none_of}
-use Rattle.order.proofs.LimitLaws.{needs_small}
 use Rattle.order.specs.Limits.{limits, within, sizes, rows, stack_need, count_need}
 use Rattle.taking.specs.Places.{used_of}
 use Rattle.taking.specs.Taking.{is_foreign, some_size, take_answer}
@@ -22,10 +21,6 @@ use Rattle.sizes.specs.Size.{is_full, is_over}
 use Rattle.cache.specs.Cache.{ref, flush}
 use Rattle.taking.specs.Parts.{early_answer, unflushable, Fit, Grid, Rows, Tabled}
 use Rattle.taking.specs.declared.Opened.{Opened}
-
--- all rows of an order that fits
-pub needs_few : (v : Opened) (n m : ℕ) → Fit v n m → sizes v.order * rows v.order ≤ 120
-needs_few v n m f = (needs_small v.order f.numbers).rows
 
 -- the rows of group k, in a table that has room for all
 module _ (n r w m k : ℕ) (g : Grid n r w m) (h : k < n) where

@@ -131,10 +131,6 @@ module _ (v : Opened) (st ct : List ℕ) (a : ℕ) where
       ∷ [])
       ((full, 6) ∷ (over, 7) ∷ []) refl
 
-  pub answer_early : (r : ℕ) → r ≡ early_answer v (length st) (length ct) → (r ≡ 0 → ⊥) → r ≡ take_answer (world v st ct) (ref a)
-  answer_early r e ne =
-      sym (answer_is ∙ simp (ne_eqb (early_answer v (length st) (length ct)) 0 (λ z. ne (e ∙ z))) (sym e))
-
   pub answer_late : Fit v (length st) (length ct) → v.taken < v.order.refs → (t u : Bool)
       → any_to (sizes v.order) (full_at v st (block_at v a)) ≡ t → over_all v st ct (block_at v a) ≡ u
       → take_answer (world v st ct) (ref a) ≡ cond t 6 (cond u 7 0)

@@ -19,9 +19,8 @@ use Rattle.units.specs.Refusals.{count_over}
 use Rattle.order.specs.Limits.{limits, within, sizes, rows, span, count_need}
 use Rattle.taking.specs.Places.{cell, used_of, counts_at}
 use Rattle.taking.specs.Parts.{unaskable}
-use Rattle.taking.specs.Questions.{asked, has, hits_of, misses_answer, misses_of}
+use Rattle.taking.specs.Questions.{Counted, asked, has, hits_of, misses_answer, misses_of}
 use Rattle.taking.specs.Taking.{is_foreign}
-use Rattle.taking.specs.declared.Counted.{Counted}
 use Rattle.taking.specs.declared.Opened.{Opened}
 
 -- ---- what refusals 1, 3, 4 and 8 leave

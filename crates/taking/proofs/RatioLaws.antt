@@ -10,14 +10,11 @@ use lib.Dec.{T, eqb}
 use lib.IntN.{pos}
 use lib.ListN.{length}
 use lib.Ieee.{fin, binary64, of_bits, le}
-use Rattle.units.specs.Refusals.{no_references}
 use Rattle.lists.proofs.Cases.{cases, picked}
 use Rattle.lists.proofs.TestLaws.{none_first}
-use Rattle.taking.specs.Questions.{misses_answer, misses_of}
-use Rattle.taking.specs.Ratios.{ratios_at, ratios_answer, ratios_from, ratios_of}
-use Rattle.taking.specs.declared.Counted.{Counted}
+use Rattle.taking.specs.Questions.{Counted, misses_answer, misses_of}
+use Rattle.taking.specs.Ratios.{Rated, ratios_at, ratios_answer, ratios_from, ratios_of}
 use Rattle.taking.specs.declared.Opened.{Opened}
-use Rattle.taking.specs.declared.Rated.{Rated}
 use Rattle.taking.specs.declared.Ratios.{Ratios}
 use Rattle.taking.proofs.QuestionLaws.{asked_of, early_none}
 use Rattle.taking.proofs.RoundingLaws.{positive_zero, Times, traffic_times, part_at_most_one}
@@ -32,9 +29,6 @@ zeros = record { miss = of_bits binary64 0; traffic = of_bits binary64 0 }
 module _ (c r : Counted) (n b : ℕ) (e : r ≡ c) where
   pub rated_refused : (r.answer ≡ 0 → ⊥) → ◌≡◌ {A = Rated} (record { state = c.state; answer = r.answer; ratios = zeros }) (ratios_from c n b)
   rated_refused h = rw (← e) (simp (ne_eqb r.answer 0 h, positive_zero))
-
-  pub rated_none : r.answer ≡ 0 → n ≡ 0 → ◌≡◌ {A = Rated} (record { state = c.state; answer = no_references; ratios = zeros }) (ratios_from c n b)
-  rated_none h z = rw (← e) (simp (h, z, positive_zero))
 
   pub rated_given : r.answer ≡ 0 → (n ≡ 0 → ⊥)
       → ◌≡◌ {A = Rated} (record { state = c.state; answer = 0; ratios = ratios_at r.misses n b }) (ratios_from c n b)

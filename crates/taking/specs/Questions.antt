@@ -1,14 +1,25 @@
 -- The questions (SCOPE, "Questions"): misses, refused with 1, 3, 4, 8, 7 in that order; then 9 for the ratios. Assumes nothing.
-use Rattle.std.specs.Prelude.{ℕ, ◌-◌, Bool, cond, not, List, [], ◌∷◌, eqb, ltb, length}
+use Rattle.std.specs.Prelude.{ℕ, ◌-◌, Bool, cond, not, Result, List, [], ◌∷◌, eqb, ltb, length}
+use Rattle.std.specs.Result.{result_unwrap_or}
 use Rattle.lists.specs.Tests.{first_of, all_le}
-use Rattle.units.specs.Refusals.{outside_limits, short_counts, foreign_state, not_in_order, count_over}
+use Rattle.units.specs.Refusals.{outside_limits, short_counts, foreign_state, not_in_order, count_over, answer_of}
+use Rattle.units.specs.declared.refusal.Refusal.{Refusal}
 use Rattle.order.specs.declared.Order.{Order}
 use Rattle.order.specs.Limits.{within, count_need}
 use Rattle.sizes.specs.Size.{hits_in}
 use Rattle.taking.specs.Places.{counts_at}
 use Rattle.taking.specs.Taking.{is_foreign}
 use Rattle.taking.specs.declared.Opened.{Opened}
-use Rattle.taking.specs.declared.Counted.{Counted}
+
+-- how often a cache missed, beside the answer number: 0 where that is not 0. The state is as it was handed in
+pub record Counted : Type 0 where
+  pub state : Opened
+  pub answer : ℕ
+  pub misses : ℕ
+
+-- what a call hands back that changes nothing of v
+abbrev pub counted : Opened → Result ℕ Refusal → Counted
+counted v r = record { state = v; answer = answer_of r; misses = result_unwrap_or r 0 }
 
 -- the order has (b, s, w): in each pair the first is at most the second
 abbrev pub asked : Order → ℕ → ℕ → ℕ → List (ℕ × ℕ)

@@ -1,14 +1,14 @@
 -- The two ratios, handed back together (SCOPE, "Questions"): refused as misses are, then with 9 where no references are taken.
 -- Assumes nothing.
-use Rattle.std.specs.Prelude.{ℕ, ◌*◌, ◌^◌, false, cond, not, List, [], ◌∷◌, eqb, Float, pos}
+use Rattle.std.specs.Prelude.{ℕ, ◌*◌, ◌^◌, false, cond, not, Result, List, [], ◌∷◌, eqb, Float, pos}
+use Rattle.std.specs.Result.{result_unwrap_or}
 use Rattle.std.specs.Float.{fin, binary64}
 use Rattle.std.specs.Float.Ieee.{round}
 use Rattle.lists.specs.Tests.{first_of}
-use Rattle.units.specs.Refusals.{no_references}
-use Rattle.taking.specs.Questions.{misses_of}
-use Rattle.taking.specs.declared.Counted.{Counted}
+use Rattle.units.specs.Refusals.{no_references, answer_of}
+use Rattle.units.specs.declared.refusal.Refusal.{Refusal}
+use Rattle.taking.specs.Questions.{Counted, misses_of}
 use Rattle.taking.specs.declared.Opened.{Opened}
-use Rattle.taking.specs.declared.Rated.{Rated}
 use Rattle.taking.specs.declared.Ratios.{Ratios}
 
 -- the binary64 number nearest to the exact fraction m / n, ties to even: one rounding
@@ -22,6 +22,16 @@ ratios_at m n b = record { miss = nearest_to m n; traffic = nearest_to (m * 2 ^ 
 -- zeros, beside a refusal
 abbrev pub no_ratios : Ratios
 no_ratios = record { miss = fin false 0 (pos 0); traffic = fin false 0 (pos 0) }
+
+-- both ratios, beside the answer number: zeros where that is not 0. The state is as it was handed in
+pub record Rated : Type 0 where
+  pub state : Opened
+  pub answer : ℕ
+  pub ratios : Ratios
+
+-- what a call hands back that changes nothing of v
+abbrev pub rated_as : Opened → Result Ratios Refusal → Rated
+rated_as v r = record { state = v; answer = answer_of r; ratios = result_unwrap_or r no_ratios }
 
 -- refused as misses, whose answer is c, then with 9
 abbrev pub ratios_answer : Counted → ℕ → ℕ

@@ -1,35 +1,26 @@
 // Flushing (SCOPE, "Flushing"): every stack of the order is emptied. Its cost goes with what was used, not with room.
 ghost use Rattle.std.specs.Prelude.{◌≡◌, ℕ, ◌+◌, ◌≤◌, List, length, replicate};
+ghost use Rattle.units.specs.Refusals.{answer_of};
 ghost use Rattle.cache.specs.Cache.{flush as Given·flush};
 ghost use Rattle.taking.specs.World.{world};
 ghost use Rattle.taking.specs.Taking.{Takes};
 ghost use Rattle.lists.specs.Tables.{write_at};
 ghost use Rattle.taking.specs.Parts.{Stacked, Emptied};
 
-use crate::{Opened, Reply};
+use crate::Opened;
 use lists::clear;
-use units::refusal;
+use units::Refusal;
 
 impl Opened {
     // Empties every stack: the used entries become zero and the used lengths 0. Counts and references taken stay.
-    pub fn flush(self, stacks: &mut [u32]) -> Reply
-        ensures { (ct : List ℕ) → Takes (world self stacks.old ct) Given·flush result.answer (world result.state stacks.new ct) }
+    pub fn flush(&mut self, stacks: &mut [u32]) -> Result<(), Refusal>
+        ensures { (ct : List ℕ) → Takes (world self.old stacks.old ct) Given·flush (answer_of result) (world self.new stacks.new ct) }
     {
-        let answer = self.unflushed(stacks.len());
-        if answer != refusal::DONE {
-            return Reply {
-                state: self,
-                answer,
-            };
-        }
-        let order = self.order;
-        let taken = self.taken;
-        let mut used = self.used;
-        empty_all(stacks, &mut used, order.sizes(), order.room as usize);
-        Reply {
-            state: Opened { order, taken, used },
-            answer: refusal::DONE,
-        }
+        self.unflushed(stacks.len())?;
+        let sizes = self.order.sizes();
+        let room = self.order.room as usize;
+        empty_all(stacks, &mut self.used, sizes, room);
+        Ok(())
     }
 }
 

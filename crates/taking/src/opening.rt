@@ -1,51 +1,40 @@
 // Opening an order over two lent tables (SCOPE, "The order's numbers").
 ghost use Rattle.std.specs.Prelude.{◌≡◌};
+ghost use Rattle.std.specs.Result.{result_unwrap_or};
+ghost use Rattle.units.specs.Refusals.{answer_of};
 ghost use Rattle.order.specs.Limits.{zero_order};
 ghost use Rattle.taking.specs.World.{world};
 ghost use Rattle.taking.specs.Opening.{Opens, fresh, unopened};
 
-use crate::{Opened, Reply};
+use crate::Opened;
 use lists::clear;
 use order::Order;
-use units::refusal;
+use units::Refusal;
 
 impl Opened {
     // Opens an order over two tables: zeroes what it needs of them.
-    pub fn open(order: Order, stacks: &mut [u32], counts: &mut [u32]) -> Reply
-        ensures { Opens order (unopened stacks.old counts.old) result.answer
-            (world result.state stacks.new counts.new) }
+    pub fn open(order: Order, stacks: &mut [u32], counts: &mut [u32]) -> Result<Opened, Refusal>
+        ensures { Opens order (unopened stacks.old counts.old) (answer_of result)
+            (world (result_unwrap_or result (fresh zero_order)) stacks.new counts.new) }
     {
-        let none = Opened::none();
         if !order.is_within() {
-            return Reply {
-                state: none,
-                answer: refusal::OUTSIDE_LIMITS,
-            };
+            return Err(Refusal::OutsideLimits);
         }
         let stack_need = order.stack_need();
         let count_need = order.count_need();
         if stacks.len() < stack_need {
-            return Reply {
-                state: none,
-                answer: refusal::SHORT_STACKS,
-            };
+            return Err(Refusal::ShortStacks);
         }
         if counts.len() < count_need {
-            return Reply {
-                state: none,
-                answer: refusal::SHORT_COUNTS,
-            };
+            return Err(Refusal::ShortCounts);
         }
         clear(stacks, stack_need);
         clear(counts, count_need);
-        Reply {
-            state: Opened {
-                order,
-                taken: 0,
-                used: [0; Order::SIZES_MOST],
-            },
-            answer: refusal::DONE,
-        }
+        Ok(Opened {
+            order,
+            taken: 0,
+            used: [0; Order::SIZES_MOST],
+        })
     }
 
     // Zeros: no order opened yet, or one refused.

@@ -1,5 +1,6 @@
 // Taking a reference at all block sizes (SCOPE, "The stack and the counts"): the quick way, and the walk.
 ghost use Rattle.std.specs.Prelude.{◌≡◌, ℕ, ◌<◌, true, List, length};
+ghost use Rattle.units.specs.Refusals.{answer_of};
 ghost use Rattle.order.specs.Limits.{stack_need, count_need};
 ghost use Rattle.cache.specs.Cache.{block_of, ref};
 ghost use Rattle.taking.specs.Places.{block_at};
@@ -7,39 +8,39 @@ ghost use Rattle.taking.specs.World.{world};
 ghost use Rattle.taking.specs.Taking.{Takes};
 ghost use Rattle.taking.specs.Parts.{Fit, Blank, wider_by, on_top, Looked};
 
+use crate::Opened;
 use crate::counting::{bump, is_over, raise_all, raise_tops, tops_over};
 use crate::moving::{is_full, move_all};
-use crate::{Opened, Reply};
 use order::Order;
-use units::{Addr, BlockNo, refusal};
+use units::{Addr, BlockNo, Refusal};
 
 // Depths for every block size and s that an order can have.
 const DEPTHS: usize = Order::SIZES_MOST * Order::ROWS_MOST;
 
 impl Opened {
     // Takes a reference. Most find their block on top of every stack: there each depth is 0 and nothing moves.
-    pub fn take_ref(self, stacks: &mut [u32], counts: &mut [u32], a: Addr) -> Reply
-        ensures { Takes (world self stacks.old counts.old) (ref a.0) result.answer
-            (world result.state stacks.new counts.new) }
+    pub fn take_ref(
+        &mut self,
+        stacks: &mut [u32],
+        counts: &mut [u32],
+        a: Addr,
+    ) -> Result<(), Refusal>
+        ensures { Takes (world self.old stacks.old counts.old) (ref a.0) (answer_of result)
+            (world self.new stacks.new counts.new) }
     {
-        let early = self.early(stacks.len(), counts.len());
-        if early != refusal::DONE {
-            return Reply {
-                state: self,
-                answer: early,
-            };
-        }
+        self.early(stacks.len(), counts.len())?;
         let first = a.block(self.order.bmin);
         if self.is_on_top(stacks, first) {
-            return self.take_top(counts);
+            self.take_top(counts)
+        } else {
+            self.take_deep(stacks, counts, first)
         }
-        self.take_deep(stacks, counts, first)
     }
 
     // The block, `first` of the smallest size, is on top of the stack of every block size.
-    fn is_on_top(self, stacks: &[u32], first: BlockNo) -> bool
-        requires { Fit self (length stacks.now) (count_need self.order) }
-        ensures { result ≡ on_top self stacks.now (wider_by first.0) }
+    fn is_on_top(&self, stacks: &[u32], first: BlockNo) -> bool
+        requires { Fit self.now (length stacks.now) (count_need self.now.order) }
+        ensures { result ≡ on_top self.now stacks.now (wider_by first.0) }
     {
         let sizes = self.order.sizes();
         let room = self.order.room as usize;
@@ -59,78 +60,59 @@ impl Opened {
     }
 
     // The quick way, where the block is on top of every stack, whatever else these hold.
-    fn take_top(self, counts: &mut [u32]) -> Reply
-        requires { Fit self (stack_need self.order) (length counts.old) × (self.taken < self.order.refs) }
-        ensures { (st : List ℕ) (a : ℕ) → Fit self (length st) (length counts.old) → on_top self st (block_at self a) ≡ true
-            → Takes (world self st counts.old) (ref a) result.answer (world result.state st counts.new) }
+    fn take_top(&mut self, counts: &mut [u32]) -> Result<(), Refusal>
+        requires { Fit self.old (stack_need self.old.order) (length counts.old) × (self.old.taken < self.old.order.refs) }
+        ensures { (st : List ℕ) (a : ℕ) → Fit self.old (length st) (length counts.old)
+            → on_top self.old st (block_at self.old a) ≡ true
+            → Takes (world self.old st counts.old) (ref a) (answer_of result) (world self.new st counts.new) }
     {
-        let order = self.order;
-        let used = self.used;
-        let tops = order.sizes() * order.rows();
-        let ways = order.ways as usize;
-        let taken = self.taken;
-        if tops_over(counts, ways, tops, taken) {
-            return Reply {
-                state: self,
-                answer: refusal::COUNT_OVER,
-            };
+        let tops = self.order.sizes() * self.order.rows();
+        let ways = self.order.ways as usize;
+        if tops_over(counts, ways, tops, self.taken) {
+            return Err(Refusal::CountOver);
         }
         raise_tops(counts, ways, tops);
-        Reply {
-            state: Opened {
-                order,
-                taken: taken + 1,
-                used,
-            },
-            answer: refusal::DONE,
-        }
+        self.taken += 1;
+        Ok(())
     }
 
     // Any other way. All block sizes are looked at before any count is raised or any block moved.
-    fn take_deep(self, stacks: &mut [u32], counts: &mut [u32], first: BlockNo) -> Reply
-        requires { Fit self (length stacks.old) (length counts.old) × (self.taken < self.order.refs) }
-        ensures { (a : ℕ) → first.0 ≡ block_of self.order.bmin.0 a
-            → Takes (world self stacks.old counts.old) (ref a) result.answer
-            (world result.state stacks.new counts.new) }
+    fn take_deep(
+        &mut self,
+        stacks: &mut [u32],
+        counts: &mut [u32],
+        first: BlockNo,
+    ) -> Result<(), Refusal>
+        requires { Fit self.old (length stacks.old) (length counts.old) × (self.old.taken < self.old.order.refs) }
+        ensures { (a : ℕ) → first.0 ≡ block_of self.old.order.bmin.0 a
+            → Takes (world self.old stacks.old counts.old) (ref a) (answer_of result)
+            (world self.new stacks.new counts.new) }
     {
-        let order = self.order;
-        let sizes = order.sizes();
-        let rows = order.rows();
-        let ways = order.ways as usize;
-        let room = order.room as usize;
-        let taken = self.taken;
-        let mut used = self.used;
+        let sizes = self.order.sizes();
+        let rows = self.order.rows();
+        let ways = self.order.ways as usize;
+        let room = self.order.room as usize;
         let mut places = [0u32; Order::SIZES_MOST];
         let mut depths = [0u32; DEPTHS];
         self.look(stacks, first, &mut places, &mut depths);
-        if is_full(&places, sizes, order.room) {
-            return Reply {
-                state: self,
-                answer: refusal::STACK_FULL,
-            };
+        if is_full(&places, sizes, self.order.room) {
+            return Err(Refusal::StackFull);
         }
-        if is_over(counts, &used, &places, &depths, sizes, rows, ways, taken) {
-            return Reply {
-                state: self,
-                answer: refusal::COUNT_OVER,
-            };
+        if is_over(
+            counts, &self.used, &places, &depths, sizes, rows, ways, self.taken,
+        ) {
+            return Err(Refusal::CountOver);
         }
-        raise_all(counts, &used, &places, &depths, sizes, rows, ways);
-        move_all(stacks, &mut used, &places, sizes, room, first);
-        Reply {
-            state: Opened {
-                order,
-                taken: taken + 1,
-                used,
-            },
-            answer: refusal::DONE,
-        }
+        raise_all(counts, &self.used, &places, &depths, sizes, rows, ways);
+        move_all(stacks, &mut self.used, &places, sizes, room, first);
+        self.taken += 1;
+        Ok(())
     }
 
     // At each block size walks the stack to its block, or to its end: where the walk left, and the depths.
-    fn look(self, stacks: &[u32], first: BlockNo, places: &mut [u32], depths: &mut [u32])
-        requires { Fit self (length stacks.now) (count_need self.order) × Blank places.old depths.old }
-        ensures { Looked self stacks.now (wider_by first.0) places.new depths.new }
+    fn look(&self, stacks: &[u32], first: BlockNo, places: &mut [u32], depths: &mut [u32])
+        requires { Fit self.now (length stacks.now) (count_need self.now.order) × Blank places.old depths.old }
+        ensures { Looked self.now stacks.now (wider_by first.0) places.new depths.new }
     {
         let sizes = self.order.sizes();
         let rows = self.order.rows();

@@ -1,79 +1,76 @@
 // The refusals that need no walk (SCOPE, "Refusal numbers"): of a taking, of a flush, and of a question.
 ghost use Rattle.std.specs.Prelude.{◌≡◌, ◌≤◌};
+ghost use Rattle.units.specs.Refusals.{answer_of};
 ghost use Rattle.order.specs.Limits.{sizes, sizes_most};
 ghost use Rattle.taking.specs.Taking.{is_foreign};
 ghost use Rattle.taking.specs.Parts.{early_answer, unflushable, unaskable};
 
 use crate::Opened;
-use units::{ByteExp, refusal};
+use order::Cache;
+use units::Refusal;
 
 impl Opened {
-    // Refusals 1 to 5 of a taking, with tables of n and m entries; 0 where none applies.
-    pub(crate) fn early(self, n: usize, m: usize) -> u32
-        ensures { result ≡ early_answer self n m }
+    // Refusals 1 to 5 of a taking, with tables of n and m entries.
+    pub(crate) fn early(&self, n: usize, m: usize) -> Result<(), Refusal>
+        ensures { answer_of result ≡ early_answer self.now n m }
     {
-        let order = self.order;
-        let taken = self.taken;
-        let refs = order.refs;
-        if !order.is_within() {
-            return refusal::OUTSIDE_LIMITS;
+        if !self.order.is_within() {
+            return Err(Refusal::OutsideLimits);
         }
-        if n < order.stack_need() {
-            return refusal::SHORT_STACKS;
+        if n < self.order.stack_need() {
+            return Err(Refusal::ShortStacks);
         }
-        if m < order.count_need() {
-            return refusal::SHORT_COUNTS;
+        if m < self.order.count_need() {
+            return Err(Refusal::ShortCounts);
         }
         if self.is_foreign() {
-            return refusal::FOREIGN_STATE;
+            return Err(Refusal::ForeignState);
         }
-        if taken == refs {
-            return refusal::REFS_REACHED;
+        if self.taken == self.order.refs {
+            return Err(Refusal::RefsReached);
         }
-        refusal::DONE
+        Ok(())
     }
 
-    // Refusals 1, 2 and 4 of a flush, with a stack table of `len` entries; 0 where none applies.
-    pub(crate) fn unflushed(self, len: usize) -> u32
-        ensures { result ≡ unflushable self len }
+    // Refusals 1, 2 and 4 of a flush, with a stack table of `len` entries.
+    pub(crate) fn unflushed(&self, len: usize) -> Result<(), Refusal>
+        ensures { answer_of result ≡ unflushable self.now len }
     {
-        let order = self.order;
-        if !order.is_within() {
-            return refusal::OUTSIDE_LIMITS;
+        if !self.order.is_within() {
+            return Err(Refusal::OutsideLimits);
         }
-        if len < order.stack_need() {
-            return refusal::SHORT_STACKS;
+        if len < self.order.stack_need() {
+            return Err(Refusal::ShortStacks);
         }
         if self.is_foreign() {
-            return refusal::FOREIGN_STATE;
+            return Err(Refusal::ForeignState);
         }
-        refusal::DONE
+        Ok(())
     }
 
-    // Refusals 1, 3, 4 and 8 of a question, with a count table of m entries; 0 where none applies.
-    pub(crate) fn unasked(self, m: usize, b: ByteExp, s: u32, w: u32) -> u32
-        ensures { result ≡ unaskable self m b.0 s w }
+    // Refusals 1, 3, 4 and 8 of a question, with a count table of m entries.
+    pub(crate) fn unasked(&self, m: usize, cache: Cache) -> Result<(), Refusal>
+        ensures { answer_of result ≡ unaskable self.now m cache.b.0 cache.s cache.w }
     {
-        let order = self.order;
-        if !order.is_within() {
-            return refusal::OUTSIDE_LIMITS;
+        if !self.order.is_within() {
+            return Err(Refusal::OutsideLimits);
         }
-        if m < order.count_need() {
-            return refusal::SHORT_COUNTS;
+        if m < self.order.count_need() {
+            return Err(Refusal::ShortCounts);
         }
         if self.is_foreign() {
-            return refusal::FOREIGN_STATE;
+            return Err(Refusal::ForeignState);
         }
-        if !self.has(b, s, w) {
-            return refusal::NOT_IN_ORDER;
+        if !self.has(cache) {
+            return Err(Refusal::NotInOrder);
         }
-        refusal::DONE
+        Ok(())
     }
 
     // The state has a used length above room for a block size of the order, or references above refs.
-    fn is_foreign(self) -> bool
-        requires { sizes self.order ≤ sizes_most }
-        ensures { result ≡ is_foreign self }
+    fn is_foreign(&self) -> bool
+        requires { sizes self.now.order ≤ sizes_most }
+        ensures { result ≡ is_foreign self.now }
     {
         let sizes = self.order.sizes();
         let room = self.order.room;

@@ -13,11 +13,11 @@ use Rattle.taking.proofs.Opened.early.Goals as goal
 use Rattle.taking.proofs.Opened.early.Goals.{After-is_foreign}
 
 -- refusals 1 to 4 do not apply: whether the references are reached decides
-last : (c : After-is_foreign) {reached : Bool} → c.is_foreign.result ≡ false → eqb c.args.self.taken c.args.self.order.refs ≡ reached
-    → early_answer c.args.self c.args.n c.args.m ≡ cond reached refs_reached 0
+last : (c : After-is_foreign) {reached : Bool} → c.is_foreign.result ≡ false → eqb c.args.self.now.taken c.args.self.now.order.refs ≡ reached
+    → early_answer c.args.self.now c.args.n c.args.m ≡ cond reached refs_reached 0
 last c own e =
     let fits = within_test _ _ c.is_within.ensures (ap not c.if-not-is_within.false) in
-    let need : c.count_need.result ≡ count_need c.args.self.order = c.count_need.ensures ∙ simp fits in
+    let need : c.count_need.result ≡ count_need c.args.self.now.order = c.count_need.ensures ∙ simp fits in
     let long = long_of {n = c.args.n} c.stack_need.ensures (omega arith) in
     let wide = long_of {n = c.args.m} need (omega arith) in
     simp (fits, long, wide, sym c.is_foreign.ensures ∙ own, e)
@@ -25,12 +25,12 @@ last c own e =
 pub is_foreign-requires : goal.is_foreign-requires
 is_foreign-requires c = omega (arith, within_yes _ _ c.is_within.ensures (ap not c.if-not-is_within.false))
 
-pub returns-then-taken-refs : goal.returns-then-taken-refs
-returns-then-taken-refs c =
-    let at = (goal.at.returns-then-taken-refs c).After-is_foreign in
-    sym (last at c.if-is_foreign.false (eq-eqb _ _ c.if-taken-refs.true))
+pub returns-then-self : goal.returns-then-self
+returns-then-self c =
+    let at = (goal.at.returns-then-self c).After-is_foreign in
+    sym (last at c.if-is_foreign.false (eq-eqb _ _ c.if-self.true))
 
 pub returns : goal.returns
 returns c =
     let at = (goal.at.returns c).After-is_foreign in
-    sym (last at c.if-is_foreign.false (ne_eqb _ _ c.if-taken-refs.false))
+    sym (last at c.if-is_foreign.false (ne_eqb _ _ c.if-self.false))

@@ -22,13 +22,13 @@ told {z} y wide small e = equal_by_bits 32 z y wide small ∙ ap (λ (x : ℕ). 
 -- ---- the returns and the turn
 pub returns-then-self-k-eq0 : goal.returns-then-self-k-eq0
 returns-then-self-k-eq0 c =
-    let v = c.args.self in
+    let v = c.args.self.now in
     let off = off_top v c.args.stacks.now (wider_by c.args.first.0) in
     simp (any_yes (sizesOf v.order) c.loop-k.k off (omega arith) (simp (eq-eqb (used_of v c.loop-k.k) 0 c.if-self-k-eq0.true)))
 
 pub returns-then-x-y-lt32 : goal.returns-then-x-y-lt32
 returns-then-x-y-lt32 c =
-    let v = c.args.self in
+    let v = c.args.self.now in
     let k = c.loop-k.k in
     let y = get_or c.args.stacks.now (k * v.order.room) 0 in
     let some = ne_eqb (used_of v k) 0 c.if-self-k-eq0.false in
@@ -38,7 +38,7 @@ returns-then-x-y-lt32 c =
 
 pub loop-k-preserved : goal.loop-k-preserved
 loop-k-preserved c =
-    let v = c.args.self in
+    let v = c.args.self.now in
     let k = c.loop-k.k in
     let y = get_or c.args.stacks.now (k * v.order.room) 0 in
     let some = ne_eqb (used_of v k) 0 c.if-self-k-eq0.false in

@@ -15,7 +15,7 @@ use Rattle.taking.proofs.Opened.look.Goals.{Joined-i-len, then-i-len, else-i-len
 -- ---- the walk
 pub bump-requires-clause-raisable : goal.bump-requires-clause-raisable
 bump-requires-clause-raisable c =
-    let v = c.args.self in
+    let v = c.args.self.now in
     let f = c.requires.0 in
     let k = c.loop-k.k in
     let l = c.loop-i in
@@ -26,7 +26,7 @@ pub loop-i-preserved : goal.loop-i-preserved
 loop-i-preserved c =
     let call = c.bump in
     let a = c.args in
-    let v = a.self in
+    let v = a.self.now in
     let x = c.wider-x in
     let k = c.loop-k.k in
     let l = c.loop-i in
@@ -38,9 +38,9 @@ loop-i-preserved c =
     c.if-i-len.false (λ e. c.if-y-x.false (e ∙ sym x.ensures)) call.auto.depths bumped
 
 -- each break of the walk leaves it as `Left` says
-left : (c : Joined-i-len) → Left c.args.self c.args.stacks.now (wider_by c.args.first.0) c.loop-k.k c.if-i-len.place c.loop-i.depths
+left : (c : Joined-i-len) → Left c.args.self.now c.args.stacks.now (wider_by c.args.first.0) c.loop-k.k c.if-i-len.place c.loop-i.depths
 left c =
-    let v = c.args.self in
+    let v = c.args.self.now in
     let st = c.args.stacks.now in
     let x = wider_by c.args.first.0 in
     let k = c.loop-k.k in
@@ -57,5 +57,5 @@ left c =
 pub loop-k-preserved : goal.loop-k-preserved
 loop-k-preserved c =
     let l = c.loop-k in
-    size_done c.args.self c.args.stacks.now (wider_by c.args.first.0) _ l.k c.requires.0 (omega arith)
+    size_done c.args.self.now c.args.stacks.now (wider_by c.args.first.0) _ l.k c.requires.0 (omega arith)
     c.if-i-len.place l.places l.depths c.loop-i.depths l.invariant (left (goal.at.loop-k-preserved c).Joined-i-len)

@@ -1,9 +1,10 @@
 -- `misses` meets its contract: refused early, refused by the hits, or given. Assumes nothing.
-use Prim.Native.Nat.{ℕ, ◌+◌, ◌-◌, ◌*◌, ◌≤◌}
+use Prim.Native.Nat.{ℕ, ◌+◌, ◌-◌, ◌*◌, ◌≤◌, ◌<◌}
 use mathlib.Core.Path.{◌≡◌, sym, ap, ◌∙◌}
 use native.Mathlib.Omega.{arith}
 use lib.ListN.{length, get_or}
 use Rattle.lists.specs.Sums.{sum_to}
+use Rattle.order.proofs.LimitLaws.{needs_small}
 use Rattle.taking.specs.Parts.{unaskable}
 use Rattle.taking.specs.Questions.{hits_of}
 use Rattle.taking.proofs.QuestionLaws.{Asked, asked_of, misses_over_lem, misses_given, hits_at_places, places_fit}
@@ -11,37 +12,44 @@ use Rattle.taking.proofs.Opened.misses.Goals as goal
 use Rattle.taking.proofs.Opened.misses.Goals.{After-rows, After-summed-hits}
 
 -- what refusals 1, 3, 4 and 8 leave, before the counts are summed and after
-asked : (c : After-rows) → let a = c.args in Asked a.self (length a.counts.now) a.b.0 a.s a.w
-asked c = asked_of c.args.self _ _ _ _ (sym c.unasked-refused.ensures ∙ c.if-refused-ne-DONE.false)
+asked : (c : After-rows) → let a = c.args in Asked a.self.now (length a.counts.now) a.cache.b.0 a.cache.s a.cache.w
+asked c = asked_of c.args.self.now _ _ _ _ (sym c.in_ok-unasked.ensures)
 
-passed : (c : After-summed-hits) → let a = c.args in unaskable a.self (length a.counts.now) a.b.0 a.s a.w ≡ 0
-passed c = sym c.unasked-refused.ensures ∙ c.if-refused-ne-DONE.false
+passed : (c : After-summed-hits) → let a = c.args in unaskable a.self.now (length a.counts.now) a.cache.b.0 a.cache.s a.cache.w ≡ 0
+passed c = sym c.in_ok-unasked.ensures
 
--- the counts that are summed are in the table
+-- the counts that are summed are in the table, in one of its few rows
 inside : (c : After-rows) →
     let a = c.args in
-    ((a.b.0 - a.self.order.bmin.0) * c.rows.result + a.s) * a.self.order.ways + a.w ≤ length a.counts.now
+    let row = (a.cache.b.0 - a.self.now.order.bmin.0) * c.rows.result + a.cache.s in
+    (row < 120) × (row * a.self.now.order.ways + a.cache.w ≤ length a.counts.now)
 inside c =
     let a = c.args in
-    let o = a.self.order in
+    let o = a.self.now.order in
     let q = asked c in
-    let at = ap (λ (n : ℕ). ((a.b.0 - o.bmin.0) * n + a.s) * o.ways) c.rows.ensures in
-    let fit = places_fit a.self (length a.counts.now) a.b.0 a.s a.w q in
-    omega (arith, q.wide)
+    let few = (needs_small o q.numbers).rows in
+    let fit = places_fit a.self.now (length a.counts.now) a.cache.b.0 a.cache.s a.cache.w q in
+    rw c.rows.ensures (omega arith, omega (arith, q.wide))
 
 -- and they are the hits
-hits : (c : After-summed-hits) → let a = c.args in c.summed-hits.result ≡ hits_of a.self a.counts.now a.b.0 a.s a.w
+hits : (c : After-summed-hits) → let a = c.args in c.summed-hits.result ≡ hits_of a.self.now a.counts.now a.cache.b.0 a.cache.s a.cache.w
 hits c =
     let a = c.args in
-    let o = a.self.order in
+    let o = a.self.now.order in
     c.summed-hits.ensures
-    ∙ ap (λ (n : ℕ). sum_to (λ (d : ℕ). get_or a.counts.now (((a.b.0 - o.bmin.0) * n + a.s) * o.ways + d) 0) a.w) c.rows.ensures
-    ∙ sym (hits_at_places a.self (length a.counts.now) a.b.0 a.s a.w (asked_of a.self _ _ _ _ (passed c)) a.counts.now)
+    ∙ ap (λ (n : ℕ). sum_to (λ (d : ℕ). get_or a.counts.now (((a.cache.b.0 - o.bmin.0) * n + a.cache.s) * o.ways + d) 0) a.cache.w) c.rows.ensures
+    ∙ sym (hits_at_places a.self.now (length a.counts.now) a.cache.b.0 a.cache.s a.cache.w (asked_of a.self.now _ _ _ _ (passed c)) a.counts.now)
 
 pub overflow_sub-k : goal.overflow_sub-k
 overflow_sub-k c =
-    let q = asked_of c.args.self _ _ _ _ (sym c.unasked-refused.ensures ∙ c.if-refused-ne-DONE.false) in
+    let q = asked_of c.args.self.now _ _ _ _ (sym c.in_ok-unasked.ensures) in
     omega (arith, q.there)
+
+pub overflow_mul-at : goal.overflow_mul-at
+overflow_mul-at c = omega (arith, inside c)
+
+pub overflow_add-at : goal.overflow_add-at
+overflow_add-at c = omega (arith, inside (goal.at.overflow_add-at c).After-rows)
 
 pub overflow_mul-at-2 : goal.overflow_mul-at-2
 overflow_mul-at-2 c = omega (arith, inside (goal.at.overflow_mul-at-2 c).After-rows)
@@ -49,17 +57,16 @@ overflow_mul-at-2 c = omega (arith, inside (goal.at.overflow_mul-at-2 c).After-r
 pub summed-hits-requires : goal.summed-hits-requires
 summed-hits-requires c =
     let at = (goal.at.summed-hits-requires c).After-rows in
-    (inside at, omega (arith, (asked at).there, (asked at).numbers))
+    ((inside at).1, omega (arith, (asked at).there, (asked at).numbers))
 
 pub returns-then-taken-hits : goal.returns-then-taken-hits
 returns-then-taken-hits c =
     let a = c.args in
     let at = (goal.at.returns-then-taken-hits c).After-summed-hits in
-    misses_over_lem a.self a.counts.now a.b.0 a.s a.w (passed at) (rw (← hits at) c.if-taken-hits.true)
+    misses_over_lem a.self.now a.counts.now a.cache.b.0 a.cache.s a.cache.w (passed at) (omega (arith, hits at))
 
 pub returns : goal.returns
 returns c =
     let a = c.args in
     let at = (goal.at.returns c).After-summed-hits in
-    ap (λ (n : ℕ). record { state = a.self; answer = 0; misses = a.self.taken - n }) (hits at)
-    ∙ misses_given a.self a.counts.now a.b.0 a.s a.w (passed at) (rw (← hits at) c.if-taken-hits.false)
+    rw (c.from-taken.ensures, hits at) (misses_given a.self.now a.counts.now a.cache.b.0 a.cache.s a.cache.w (passed at) (omega (arith, hits at)))

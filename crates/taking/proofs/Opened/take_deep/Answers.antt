@@ -77,7 +77,7 @@ is_over-requires c =
 pub raise_all-requires : goal.raise_all-requires
 raise_all-requires c =
     let f = c.requires.0 in
-    let small : c.args.self.taken ≤ count_most = omega (arith, f.numbers, f.ceiling) in
+    let small : c.args.self.now.taken ≤ count_most = omega (arith, f.numbers, f.ceiling) in
     record {
       tabled =
           tabled f c.look.ensures c.sizes-sizes.ensures c.rows-rows.ensures (search (rules, c.well_formed)) c.look.auto.places
@@ -96,25 +96,25 @@ returns-then-is_full c = λ a e.
     let b = c.args in
     let f = c.requires.0 in
     let full =
-    full_here f (seen_at b.self a b.first.0 e c.look.ensures) c.sizes-sizes.ensures c.rows-rows.ensures c.is_full.ensures
+    full_here f (seen_at b.self.now a b.first.0 e c.look.ensures) c.sizes-sizes.ensures c.rows-rows.ensures c.is_full.ensures
     ∙ c.if-is_full.true in
-    refused b.self b.stacks.now b.counts.now a 6 (sym (answer_late b.self b.stacks.now b.counts.now a f c.requires.1 true _ full refl))
+    refused b.self.now b.stacks.now b.counts.now a 6 (sym (answer_late b.self.now b.stacks.now b.counts.now a f c.requires.1 true _ full refl))
     (λ z. omega arith)
 
 pub returns-then-is_over : goal.returns-then-is_over
 returns-then-is_over c = λ a e.
     let b = c.args in
     let f = c.requires.0 in
-    let seen = seen_at b.self a b.first.0 e c.look.ensures in
+    let seen = seen_at b.self.now a b.first.0 e c.look.ensures in
     let full = full_here f seen c.sizes-sizes.ensures c.rows-rows.ensures c.is_full.ensures ∙ c.if-is_full.false in
     let over = over_here f seen c.sizes-sizes.ensures c.rows-rows.ensures _ c.is_over.ensures ∙ c.if-is_over.true in
-    refused b.self b.stacks.now b.counts.now a 7 (sym (answer_late b.self b.stacks.now b.counts.now a f c.requires.1 false true full over))
+    refused b.self.now b.stacks.now b.counts.now a 7 (sym (answer_late b.self.now b.stacks.now b.counts.now a f c.requires.1 false true full over))
     (λ z. omega arith)
 
 pub returns : goal.returns
 returns c = λ a e.
     let b = c.args in
-    let v = b.self in
+    let v = b.self.now in
     let st = b.stacks.now in
     let ct = b.counts.now in
     let f = c.requires.0 in

@@ -37,7 +37,7 @@ tops_over-requires c =
 -- ---- the returns
 pub returns-then-tops_over : goal.returns-then-tops_over
 returns-then-tops_over c = λ st a f on.
-    let v = c.args.self in
+    let v = c.args.self.now in
     let ct = c.args.counts.now in
     let x = block_at v a in
     let some = over_here v st ct x f on (ap₂ ◌*◌ c.sizes.ensures c.rows.ensures) c.tops_over.ensures ∙ c.if-tops_over.true in
@@ -45,7 +45,7 @@ returns-then-tops_over c = λ st a f on.
 
 pub raise_tops-requires : goal.raise_tops-requires
 raise_tops-requires c =
-    let v = c.args.self in
+    let v = c.args.self.now in
     let ct = c.args.counts.now in
     let f = c.requires.0 in
     let tops = ap₂ ◌*◌ c.sizes.ensures c.rows.ensures in
@@ -54,7 +54,7 @@ raise_tops-requires c =
 
 pub returns : goal.returns
 returns c = λ st a f on.
-    let v = c.args.self in
+    let v = c.args.self.now in
     let ct = c.args.counts.now in
     let x = block_at v a in
     let tops = ap₂ ◌*◌ c.sizes.ensures c.rows.ensures in

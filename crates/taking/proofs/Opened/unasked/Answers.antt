@@ -15,11 +15,11 @@ use Rattle.taking.proofs.Opened.unasked.Goals.{After-is_foreign}
 -- refusals 1 and 3 do not apply: whether the state is foreign and whether the order has the cache decide
 last_two : (c : After-is_foreign) {foreign there : Bool} →
     let a = c.args in
-    c.is_foreign.result ≡ foreign → has a.self.order a.b.0 a.s a.w ≡ there
-    → unaskable a.self a.m a.b.0 a.s a.w ≡ cond foreign foreign_state (cond (not there) not_in_order 0)
+    c.is_foreign.result ≡ foreign → has a.self.now.order a.cache.b.0 a.cache.s a.cache.w ≡ there
+    → unaskable a.self.now a.m a.cache.b.0 a.cache.s a.cache.w ≡ cond foreign foreign_state (cond (not there) not_in_order 0)
 last_two c e h =
     let fits = within_test _ _ c.is_within.ensures (ap not c.if-not-is_within.false) in
-    let need : c.count_need.result ≡ count_need c.args.self.order = c.count_need.ensures ∙ simp fits in
+    let need : c.count_need.result ≡ count_need c.args.self.now.order = c.count_need.ensures ∙ simp fits in
     simp (fits, long_of need c.if-m-count_need.false, sym c.is_foreign.ensures ∙ e, h)
 
 pub is_foreign-requires : goal.is_foreign-requires

@@ -11,7 +11,7 @@ use Rattle.taking.proofs.Opened.unflushed.Goals.{After-is_foreign}
 
 -- refusals 1 and 2 do not apply: whether the state is foreign decides
 last : (c : After-is_foreign) {foreign : Bool} → c.is_foreign.result ≡ foreign
-    → unflushable c.args.self c.args.len ≡ cond foreign foreign_state 0
+    → unflushable c.args.self.now c.args.len ≡ cond foreign foreign_state 0
 last c e =
     let fits = within_test _ _ c.is_within.ensures (ap not c.if-not-is_within.false) in
     simp (fits, long_of c.stack_need.ensures c.if-len-stack_need.false, sym c.is_foreign.ensures ∙ e)

@@ -13,6 +13,9 @@ returns c =
     let b = a.b.0 in
     let power : 1 * 2 ^ b % 4294967296 ≡ 2 ^ b = one_shifted 32 b (omega arith) in
     simp (
+      c.from.ensures,
+      c.from-2.ensures,
+      c.from-bytes.ensures,
       power,
       miss_once m a.taken b (omega arith) (omega arith) (omega arith) (omega arith),
       traffic_once m a.taken b (omega arith) (omega arith) (omega arith) (omega arith),
