@@ -1,3 +1,4 @@
+pub mod AnyLaws
 pub mod BitLaws
 pub mod BoolLaws
 pub mod BumpLaws

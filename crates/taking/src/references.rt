@@ -44,17 +44,11 @@ impl Opened {
     {
         let sizes = self.order.sizes();
         let room = self.order.room as usize;
-        let mut k = 0usize;
-        while k < sizes {
-            if self.used[k] == 0 {
+        for (k, used) in self.used[..sizes].iter().enumerate() {
+            let top = BlockNo(stacks[k * room]);
+            if *used == 0 || first.wider(k as u32) != top {
                 return false;
             }
-            let x = first.wider(k as u32);
-            let y = BlockNo(stacks[k * room]);
-            if u32::trailing_zeros(x.0 ^ y.0) < 32 {
-                return false;
-            }
-            k += 1;
         }
         true
     }

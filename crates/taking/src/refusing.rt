@@ -74,13 +74,6 @@ impl Opened {
     {
         let sizes = self.order.sizes();
         let room = self.order.room;
-        let mut k = 0usize;
-        while k < sizes {
-            if self.used[k] > room {
-                return true;
-            }
-            k += 1;
-        }
-        self.taken > self.order.refs
+        self.used[..sizes].iter().any(|used| *used > room) || self.taken > self.order.refs
     }
 }

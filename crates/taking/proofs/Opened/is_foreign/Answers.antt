@@ -1,30 +1,33 @@
--- `is_foreign` meets its contract: no used length passed is above room. Assumes nothing.
-use mathlib.Core.Path.{sym, ap}
-use mathlib.Core.Bool.{Bool, ◌||◌}
+-- `is_foreign` meets its contract: some used length of the order is above room, or the references are above refs. Assumes nothing.
+use Prim.Native.Nat.{ℕ}
+use mathlib.Core.Path.{◌≡◌, sym, ap, ◌∙◌}
 use native.Mathlib.Omega.{arith}
 use lib.Dec.{ltb}
+use lib.ListN.{take}
 use borrow.Author.Rules.{rules}
-use borrow.Author.Tests.{lt-ltb, le-ltb}
-use Rattle.lists.proofs.TestLaws.{any_none, any_more, any_yes, any_ended}
+use Rattle.std.proofs.lemmas.Iterator.{YieldsList-from_slice}
+use Rattle.std.proofs.lemmas.Iterator.Search.{any_from_yields_List}
+use Rattle.lists.specs.Tests.{any_to}
+use Rattle.lists.proofs.AnyLaws.{any_listed}
 use Rattle.order.specs.Limits.{sizes as sizesOf}
-use Rattle.taking.proofs.Opened.is_foreign.Invariants.{too_long}
+use Rattle.taking.specs.Places.{used_of}
 use Rattle.taking.proofs.Opened.is_foreign.Goals as goal
+use Rattle.taking.proofs.Opened.is_foreign.Goals.{After-any}
 
-pub returns-then-self-k : goal.returns-then-self-k
-returns-then-self-k c =
+-- the chain looks at each used length of the order
+found : (c : After-any) →
     let v = c.args.self.now in
-    simp (any_yes (sizesOf v.order) c.loop-k.k (too_long v) (omega arith) (lt-ltb _ _ c.if-self-k.true))
-
-pub loop-k-preserved : goal.loop-k-preserved
-loop-k-preserved c =
+    any_to (sizesOf v.order) (λ (k : ℕ). ltb v.order.room (used_of v k)) ≡ c.any.result
+found c =
     let v = c.args.self.now in
-    (search rules, any_more c.loop-k.k (too_long v) c.loop-k.invariant.1 (le-ltb _ _ c.if-self-k.false))
+    let n = c.sizes-sizes.result in
+    sym
+    (any_from_yields_List (ltb v.order.room) _ _ _ c.any.ensures.ran (YieldsList-from_slice (take n v.used) (search rules)) (λ x b q k. search rules)
+    ∙ any_listed (ltb v.order.room) v.used n (omega arith)
+    ∙ ap (λ (n : ℕ). any_to n (λ (k : ℕ). ltb v.order.room (used_of v k))) c.sizes-sizes.ensures)
 
-pub returns : goal.returns
-returns c =
-    let v = c.args.self.now in
-    let none = any_ended (sizesOf v.order) c.loop-k.k (too_long v) (omega arith) (omega arith) c.loop-k.invariant.1 in
-    sym (ap (λ (t : Bool). t || ltb v.order.refs v.taken) none)
+pub returns-then-any : goal.returns-then-any
+returns-then-any c = let e = found (goal.at.returns-then-any c).After-any in simp (e, c.if-any.true)
 
-pub loop-k-init : goal.loop-k-init
-loop-k-init c = (search rules, any_none _)
+pub returns-else-any : goal.returns-else-any
+returns-else-any c = let e = found (goal.at.returns-else-any c).After-any in simp (e, c.if-any.false)
