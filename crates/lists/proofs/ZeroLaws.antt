@@ -1,11 +1,10 @@
 -- Laws of `zeroed` and `values_to`: lengths, what is read, what stays; a table whose first entries are known.
 -- Assumes nothing.
-use Prim.Native.Nat.{ℕ, zero, suc, ◌+◌, ◌-◌, ◌≤◌, ◌<◌}
+use Prim.Native.Nat.{ℕ, zero, suc, ◌+◌, ◌-◌, ◌≤◌, ◌<◌, min}
 use mathlib.Core.Path.{◌≡◌, refl, sym, ap, ap₂, ◌∙◌}
 use mathlib.Core.List.{List, [], ◌∷◌, ◌++◌}
-use native.Mathlib.Numerals.{add-one}
 use native.Mathlib.Omega.{arith}
-use lib.ListN.{length, take, drop, get_or, set, replicate, length-replicate}
+use lib.ListN.{length, take, drop, get_or, replicate, length-replicate}
 use lib.Seq.{ext_get_or}
 use Rattle.lists.specs.Tables.{zeroed, values_to, part, write_at}
 use Rattle.lists.proofs.PartLaws.{part_at, length_part}
@@ -65,24 +64,14 @@ put_zeros base n l h =
     cut : base + n - base ≡ n
     cut = omega arith
 
--- ---- a loop that zeroes
-
-zeroed_suc : (i : ℕ) (l : List ℕ) → i < length l → set (zeroed i l) i 0 ≡ zeroed (suc i) l
-zeroed_suc i [] h = absurd (omega arith)
-zeroed_suc zero (x ∷ l) h = refl
-zeroed_suc (suc i) (x ∷ l) h = ap (λ (t : List ℕ). 0 ∷ t) (zeroed_suc i l (omega arith))
-
-pub zeroed_more : (i : ℕ) (l : List ℕ) → i < length l → set (zeroed i l) i 0 ≡ zeroed (i + 1) l
-zeroed_more i l h = rw (add-one i) (zeroed_suc i l h)
-
-pub zeroed_past : (i n : ℕ) (l : List ℕ) → length l ≤ i → length l ≤ n → zeroed i l ≡ zeroed n l
-zeroed_past zero zero [] h f = refl
-zeroed_past zero (suc n) [] h f = refl
-zeroed_past (suc i) zero [] h f = refl
-zeroed_past (suc i) (suc n) [] h f = refl
-zeroed_past zero n (x ∷ l) h f = absurd (omega arith)
-zeroed_past (suc i) zero (x ∷ l) h f = absurd (omega arith)
-zeroed_past (suc i) (suc n) (x ∷ l) h f = ap (λ (t : List ℕ). 0 ∷ t) (zeroed_past i n l (omega arith) (omega arith))
+-- zeros in place of the first entries, as many of them as the list has
+pub zeros_before : (n end : ℕ) (l : List ℕ) → end ≡ min n (length l) → replicate (length (take end l)) 0 ++ drop end l ≡ zeroed n l
+zeros_before zero zero l h = refl
+zeros_before zero (suc end) l h = absurd (omega arith)
+zeros_before (suc n) zero [] h = refl
+zeros_before (suc n) (suc end) [] h = absurd (omega arith)
+zeros_before (suc n) zero (x ∷ l) h = absurd (omega arith)
+zeros_before (suc n) (suc end) (x ∷ l) h = ap (λ (t : List ℕ). 0 ∷ t) (zeros_before n end l (omega arith))
 
 -- ---- a table by its first n entries
 
