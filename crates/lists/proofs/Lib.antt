@@ -1,7 +1,6 @@
 pub mod AnyLaws
 pub mod BitLaws
 pub mod BoolLaws
-pub mod BumpLaws
 pub mod Cases
 pub mod CompareLaws
 pub mod CoverLaws

@@ -2,7 +2,7 @@
 -- Assumes nothing.
 use Prim.Native.Nat.{ℕ, zero, suc, ◌+◌, ◌≤◌, ◌<◌}
 use mathlib.Core.Path.{◌≡◌, refl, sym, ap, ◌∙◌, subst}
-use mathlib.Core.Bool.{Bool, true, false, cond, true≢false, false≢true, or-true, not, ◌&&◌}
+use mathlib.Core.Bool.{Bool, true, false, cond, true≢false, false≢true, or-true, not, ◌&&◌, ◌||◌}
 use mathlib.Core.List.{List, [], ◌∷◌, ◌++◌}
 use native.Mathlib.Numerals.{add-one}
 use native.Mathlib.Omega.{arith}
@@ -53,6 +53,10 @@ any_none p = refl
 pub any_more : (k : ℕ) (p : ℕ → Bool) → any_to k p ≡ false → p k ≡ false → any_to (k + 1) p ≡ false
 unfolding any_to
 any_more k p h e = rw (add-one k) (simp (h, e))
+
+pub any_next : (k : ℕ) (p : ℕ → Bool) → any_to (k + 1) p ≡ (any_to k p || p k)
+unfolding any_to
+any_next k p = rw (add-one k)
 
 pub any_yes : (n k : ℕ) (p : ℕ → Bool) → k < n → p k ≡ true → any_to n p ≡ true
 unfolding any_to

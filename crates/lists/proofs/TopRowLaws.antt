@@ -34,13 +34,6 @@ raise_top w first d s l c e z h =
 
 -- ---- the turns of a loop over the first counts of rows
 
-pub any_hit : (k : ℕ) (p : ℕ → Bool) → p k ≡ true → any_to (k + 1) p ≡ true
-any_hit k p e = any_yes (k + 1) k p (omega arith) e
-
-pub any_pass : (k : ℕ) (p : ℕ → Bool) → p k ≡ false → any_to (k + 1) p ≡ any_to k p
-unfolding any_to
-any_pass k p e = rw (add-one k) (cases (any_to k p) (λ h. simp (h, e)) (λ h. simp (h, e)))
-
 pub top_raise : (w s : ℕ) (l c : List ℕ) → c ≡ raised_rows w 0 (λ (t : ℕ). 0) s l → 0 < w
     → set c (s * w) (get_or c (s * w) 0 + 1) ≡ raised_rows w 0 (λ (t : ℕ). 0) (s + 1) l
 top_raise w s l c e h =

@@ -13,14 +13,9 @@ pub(crate) fn bump(depths: &mut [u32], base: usize, rows: usize, shared: usize)
     requires raisable { (s : ℕ) → s < rows → get_or depths.old (base + s) 0 < count_most }
     ensures { Bumped base rows shared depths.old depths.new }
 {
-    let mut end = rows;
-    if shared < rows {
-        end = shared + 1;
-    }
-    let mut s = 0usize;
-    while s < end {
-        depths[base + s] = depths[base + s] + 1;
-        s += 1;
+    let end = if shared < rows { shared + 1 } else { rows };
+    for depth in &mut depths[base..base + end] {
+        *depth += 1;
     }
 }
 
@@ -152,12 +147,8 @@ pub(crate) fn tops_over(counts: &[u32], ways: usize, rows: usize, taken: u32) ->
     ensures { result ≡ any_to rows (λ (s : ℕ). leb taken (get_or counts.now (s * ways) 0)) }
 {
     let mut over = false;
-    let mut s = 0usize;
-    while s < rows {
-        if counts[s * ways] >= taken {
-            over = true;
-        }
-        s += 1;
+    for s in 0..rows {
+        over |= counts[s * ways] >= taken;
     }
     over
 }
@@ -168,11 +159,8 @@ pub(crate) fn raise_tops(counts: &mut [u32], ways: usize, rows: usize)
     requires raisable { (s : ℕ) → s < rows → get_or counts.old (s * ways) 0 < count_most }
     ensures { counts.new ≡ raised_rows ways 0 (λ (s : ℕ). 0) rows counts.old }
 {
-    let mut s = 0usize;
-    while s < rows {
-        let i = s * ways;
-        counts[i] = counts[i] + 1;
-        s += 1;
+    for s in 0..rows {
+        counts[s * ways] += 1;
     }
 }
 
