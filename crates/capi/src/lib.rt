@@ -5,13 +5,14 @@
 
 ghost use Rattle.std.specs.Prelude.{ℕ, ◌≡◌, List};
 ghost use Rattle.cache.specs.Cache.{ref, flush};
+ghost use Rattle.units.specs.Refusals.{answer_of};
 ghost use Rattle.strip.specs.Strip.{Strips};
 ghost use Rattle.capi.specs.Boundary.{numbers_of, lent, Says, CallsOpen, CallsTake, CallsMisses, CallsRatios};
 
 use order::Order;
 use strip::strip;
 use taking::Opened;
-use units::{Addr, ByteExp};
+use units::{Addr, ByteExp, Refusal};
 
 // How many numbers a state has.
 pub const STATE_NUMBERS: usize = 15;
@@ -127,8 +128,18 @@ pub extern "C" fn kkaeduron_strip(
         (record { answer = result; kept = kept.new }) filter.new out.new }
 {
     let stripped = strip(list, ByteExp(b), s, filter, out);
-    *kept = stripped.kept;
-    stripped.answer
+    *kept = stripped.unwrap_or(0);
+    number(&stripped)
+}
+
+// The number of an answer: 0, or that of the refusal.
+fn number<T>(answer: &Result<T, Refusal>) -> u32
+    ensures { result ≡ answer_of answer.now }
+{
+    match answer {
+        Ok(_) => 0,
+        Err(refusal) => u32::from(*refusal),
+    }
 }
 
 // The opened order that the numbers say.

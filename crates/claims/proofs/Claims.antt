@@ -28,9 +28,8 @@ use Rattle.taking.specs.Ratios.{Rated, ratios_of, ratios_at, no_ratios}
 use Rattle.taking.proofs.TakenLaws.{take_answer_in_words}
 use Rattle.calls.specs.Calls.{Call, Calls}
 use Rattle.calls.proofs.CallLaws.{call_refused, calls_there}
-use Rattle.strip.specs.declared.Stripped.{Stripped}
 use Rattle.strip.specs.Joined.{joined_runs, StripsTo}
-use Rattle.strip.specs.Strip.{kept_of, strip_limits, Strips}
+use Rattle.strip.specs.Strip.{Stripped, kept_of, strip_limits, Strips}
 use Rattle.strip.proofs.JoinedLaws.{joined_all, calls_kept, whole_as_before, whole_dropped, whole_misses}
 use Rattle.strip.proofs.StripClaims.{strip_refused, strip_short, strip_untouched, left_is_kept, kept_as_before, dropped_hit, misses_same}
 use Rattle.units.specs.Refusals.{has_column}

@@ -1,13 +1,16 @@
--- A machine passed over a list by a loop, i things passed: its state, how many it left, and those at the front of an output.
--- The idea: what was left so far, and what the present state leaves of the rest, is what the first state leaves of all. Assumes nothing.
+-- A machine passed over a list by a loop, i things passed: its state, how many it left, and those at the front of an output, as far as that
+-- has room. The idea: what was left so far, and what the present state leaves of the rest, is what the first state leaves of all. Assumes nothing.
 use Prim.Native.Nat.{ℕ, ◌+◌, ◌≤◌, ◌<◌}
 use mathlib.Core.Path.{◌≡◌, refl, sym, ap, ap₂, ◌∙◌}
 use mathlib.Core.Bool.{Bool, true, false}
 use mathlib.Core.List.{List, [], ◌∷◌, ◌++◌, append-nil}
 use native.Mathlib.Numerals.{add-one}
 use native.Mathlib.Omega.{arith}
-use lib.ListN.{length, take, drop, get_or, set, length-append, length-set, take-append-drop, drop_of_length-le}
-use lib.Seq.{drop-cons, take-suc-set, drop-set-lt, append_snoc, drop-drop, length-take-le}
+use Rattle.std.specs.List.{refill, length_refill}
+use Rattle.std.proofs.lemmas.Grind.{common_steps}
+use Rattle.std.proofs.lemmas.List.{length-append}
+use lib.ListN.{length, drop, get_or, set, drop_of_length-le}
+use lib.Seq.{drop-cons, append_snoc, set-append_seam, take-length, take-set-lt}
 use Rattle.lists.specs.Runs.{after, left_on}
 
 -- ---- the state
@@ -49,94 +52,79 @@ module _ {S : Type 0} (step : S → ℕ → S) (p : S → ℕ → Bool) (s : S) 
   left_end : length l ≤ i → left_on step p s (drop i l) ≡ []
   left_end h = rw (drop_of_length-le l h)
 
--- ---- n of the first i are left
+-- ---- the front of an output, which was out
 
-pub record Counting {S : Type 0} (step : S → ℕ → S) (p : S → ℕ → Bool) (s₀ : S) (l : List ℕ) (s : S) (n i : ℕ) : Type 0 where
-  pub passed : Passed step s₀ l s i
-  pub few : n ≤ i
-  pub count : length (left_on step p s₀ l) ≡ n + length (left_on step p s (drop i l))
+-- one thing more has room, and is put behind those that stand there
+front_more : (out ks : List ℕ) (x : ℕ) → length ks < length out
+    → set (refill (length out) out ks) (length ks) x ≡ refill (length out) out (ks ++ (x ∷ []))
+front_more out ks x h =
+    rw (← take-set-lt, drop-cons out (length ks) 0, set-append_seam, append_snoc, length-append, add-one)
 
-module _ {S : Type 0} {step : S → ℕ → S} {p : S → ℕ → Bool} {s₀ : S} where
-  pub count_none : (l : List ℕ) → Counting step p s₀ l s₀ 0 0
-  count_none l = record { passed = passed_none l; few = omega arith; count = omega arith }
+-- one that has none is left out
+front_full : (out ks : List ℕ) (x : ℕ) → length out ≤ length ks → refill (length out) out ks ≡ refill (length out) out (ks ++ (x ∷ []))
+front_full out ks x h = grind (arith, common_steps)
 
-  module _ {l : List ℕ} {s : S} {n i : ℕ} (c : Counting step p s₀ l s n i) where
-    module _ {s' : S} {r : Bool} (h : i < length l) (test : r ≡ p s (get_or l i 0)) (next : s' ≡ step s (get_or l i 0)) where
-      pub count_dropped : r ≡ true → Counting step p s₀ l s' n (i + 1)
-      count_dropped e = record {
-        passed = passed_more c.passed h next;
-        few = omega arith;
-        count = omega (arith, c.count, ap length (left_dropped step p s l i h test next e));
-      }
-
-      pub count_kept : r ≡ false → Counting step p s₀ l s' (n + 1) (i + 1)
-      count_kept e = record {
-        passed = passed_more c.passed h next;
-        few = omega arith;
-        count = omega (arith, c.count, ap length (left_kept step p s l i h test next e));
-      }
-
-    pub counted_all : length l ≤ i → n ≡ length (left_on step p s₀ l)
-    counted_all h = omega (arith, c.count, ap length (left_end step p s l i h))
-
--- ---- and those n stand at the front of the output, which was out₀
+-- ---- n of the first i are left, and stand at the front of the output, which was out₀, as far as that has room
 
 pub record Keeping {S : Type 0} (step : S → ℕ → S) (p : S → ℕ → Bool) (s₀ : S) (l out₀ : List ℕ) (s : S) (out : List ℕ) (n i : ℕ) : Type 0 where
   pub passed : Passed step s₀ l s i
-  pub fits : length (left_on step p s₀ l) ≤ length out
-  pub within : n ≤ length out
-  pub same_length : length out ≡ length out₀
-  pub front : left_on step p s₀ l ≡ take n out ++ left_on step p s (drop i l)
-  pub rest : drop n out ≡ drop n out₀
+  pub few : n ≤ i
+  pub left : List ℕ
+  pub many : n ≡ length left
+  pub all : left_on step p s₀ l ≡ left ++ left_on step p s (drop i l)
+  pub output : out ≡ refill (length out₀) out₀ left
 
 module _ {S : Type 0} {step : S → ℕ → S} {p : S → ℕ → Bool} {s₀ : S} where
-  pub keep_none : (l out₀ : List ℕ) → length (left_on step p s₀ l) ≤ length out₀ → Keeping step p s₀ l out₀ s₀ out₀ 0 0
-  keep_none l out₀ f = record { passed = passed_none l; fits = f; within = omega arith; same_length = refl; front = refl; rest = refl }
+  pub keep_none : (l out₀ : List ℕ) → Keeping step p s₀ l out₀ s₀ out₀ 0 0
+  keep_none l out₀ = record { passed = passed_none l; few = omega arith; left = []; many = refl; all = refl; output = sym (take-length out₀) }
 
   module _ {l out₀ : List ℕ} {s : S} {out : List ℕ} {n i : ℕ} (k : Keeping step p s₀ l out₀ s out n i) where
+    same_length : length out ≡ length out₀
+    same_length = ap length k.output ∙ sym (length_refill (length out₀) out₀ k.left refl)
+
     module _ {s' : S} {r : Bool} (h : i < length l) (test : r ≡ p s (get_or l i 0)) (next : s' ≡ step s (get_or l i 0)) where
       pub keep_dropped : r ≡ true → Keeping step p s₀ l out₀ s' out n (i + 1)
       keep_dropped e = record {
         passed = passed_more k.passed h next;
-        fits = k.fits;
-        within = k.within;
-        same_length = k.same_length;
-        front = k.front ∙ ap (take n out ++◌) (left_dropped step p s l i h test next e);
-        rest = k.rest;
+        few = omega arith;
+        left = k.left;
+        many = k.many;
+        all = k.all ∙ ap (k.left ++◌) (left_dropped step p s l i h test next e);
+        output = k.output;
       }
 
-      -- there is room for one more
-      pub keep_room : r ≡ false → n < length out
-      keep_room e =
-          let all = ap length k.front ∙ length-append (take n out) (left_on step p s (drop i l)) in
-          let more = ap length (left_kept step p s l i h test next e) in
-          omega (arith, length-take-le n out k.within)
-
-      pub keep_kept : r ≡ false → Keeping step p s₀ l out₀ s' (set out n (get_or l i 0)) (n + 1) (i + 1)
-      keep_kept e =
+      -- one more is left, and out' has it at its front, or no room for it
+      kept_more : {out' : List ℕ} → r ≡ false → out' ≡ refill (length out₀) out₀ (k.left ++ (get_or l i 0 ∷ []))
+          → Keeping step p s₀ l out₀ s' out' (n + 1) (i + 1)
+      kept_more e put =
           let x = get_or l i 0 in
-          let later = left_on step p s' (drop (i + 1) l) in
-          let room : n < length out = keep_room e in
-          let grown : take (n + 1) (set out n x) ≡ take n out ++ (x ∷ []) = rw (add-one n) (take-suc-set out n x room) in
           record {
             passed = passed_more k.passed h next;
-            fits = simp length-set k.fits;
-            within = simp length-set (omega arith);
-            same_length = simp length-set k.same_length;
-            front =
-                k.front
-                ∙ ap (take n out ++◌) (left_kept step p s l i h test next e)
-                ∙ sym (append_snoc (take n out) x later)
-                ∙ ap (◌++ later) (sym grown);
-            rest = drop-set-lt (n + 1) out n x (omega arith) ∙ sym (drop-drop 1 n out) ∙ ap (drop 1) k.rest ∙ drop-drop 1 n out₀;
+            few = omega arith;
+            left = k.left ++ (x ∷ []);
+            many = omega (arith, k.many, length-append k.left (x ∷ []));
+            all =
+                k.all
+                ∙ ap (k.left ++◌) (left_kept step p s l i h test next e)
+                ∙ sym (append_snoc k.left x (left_on step p s' (drop (i + 1) l)));
+            output = put;
           }
 
+      pub keep_put : r ≡ false → n < length out → Keeping step p s₀ l out₀ s' (set out n (get_or l i 0)) (n + 1) (i + 1)
+      keep_put e room =
+          kept_more e
+          (ap₂ (λ (m : List ℕ) (j : ℕ). set m j (get_or l i 0)) k.output k.many
+          ∙ front_more out₀ k.left (get_or l i 0) (omega (arith, same_length, k.many)))
+
+      pub keep_full : r ≡ false → length out ≤ n → Keeping step p s₀ l out₀ s' out (n + 1) (i + 1)
+      keep_full e full = kept_more e (k.output ∙ front_full out₀ k.left (get_or l i 0) (omega (arith, same_length, k.many)))
+
     module _ (h : length l ≤ i) where
-      whole : left_on step p s₀ l ≡ take n out
-      whole = k.front ∙ ap (take n out ++◌) (left_end step p s l i h) ∙ append-nil (take n out)
+      whole : left_on step p s₀ l ≡ k.left
+      whole = k.all ∙ ap (k.left ++◌) (left_end step p s l i h) ∙ append-nil k.left
 
       pub kept_all : n ≡ length (left_on step p s₀ l)
-      kept_all = sym (ap length whole ∙ length-take-le n out k.within)
+      kept_all = k.many ∙ ap length (sym whole)
 
-      pub kept_output : out ≡ left_on step p s₀ l ++ drop (length (left_on step p s₀ l)) out₀
-      kept_output = sym (take-append-drop n out) ∙ ap₂ ◌++◌ (sym whole) (k.rest ∙ ap (λ (m : ℕ). drop m out₀) kept_all)
+      pub kept_output : out ≡ refill (length out₀) out₀ (left_on step p s₀ l)
+      kept_output = k.output ∙ ap (refill (length out₀) out₀) (sym whole)

@@ -17,8 +17,9 @@ use Rattle.lists.proofs.RunLaws.{length_without}
 use Rattle.lists.proofs.ZeroLaws.{length_zeroed, drop_zeroed, get_d_zeroed, zeroed_same, values_are}
 use Rattle.cache.specs.Cache.{block_of, set_of, touch, is_hit, Sets, empty_sets, refer, cache_step, cache_answer, simulate, touches_of}
 use Rattle.cache.proofs.SetLaws.{set_below}
+use Rattle.strip.specs.declared.Filter.{Filter}
 use Rattle.strip.specs.Strip.{kept_of, last_plus_one, entry_of}
-use Rattle.strip.specs.Filter.{place_of, is_held, filter_step, kept_from, filter_after, Counts}
+use Rattle.strip.specs.Filter.{place_of, is_held, filter_step, kept_from, filter_after, Keeps}
 
 -- ---- an entry and its set
 
@@ -142,15 +143,16 @@ pub entry_test : (b s i : ℕ) (l : List ℕ) (x : ℕ)
     → mem x (after (cache_step s 1) empty_sets (touches_of b l) i) ≡ eqb (entry_of b s l i) (suc x)
 entry_test b s i l x = ap (mem x) (entry_is b s i l) ∙ mem_set_in x (entry_of b s l i)
 
--- ---- a counting pass from the emptied filter t on
+-- ---- a pass from an emptied filter on
 
-module _ {b s : ℕ} {l t : List ℕ} {n : ℕ} {t' : List ℕ} (p : Counts b s l t n t') (table : List ℕ) (start : t ≡ zeroed (2 ^ s) table) where
-  pub kept_counted : 2 ^ s ≤ length table → n ≡ length (kept_of b s l)
-  kept_counted h = p.count ∙ ap (λ (u : List ℕ). length (kept_from b s u l)) start ∙ ap length (kept_is b s l table h)
+module _ {l : List ℕ} {f : Filter} {out : List ℕ} {n : ℕ} {f' : Filter} {out' : List ℕ} (p : Keeps l f out n f' out') where
+  module _ (table : List ℕ) (start : f.entries.now ≡ zeroed (2 ^ f.s) table) where
+    pub kept_counted : 2 ^ f.s ≤ length table → n ≡ length (kept_of f.b.0 f.s l)
+    kept_counted h = p.count ∙ ap (λ (u : List ℕ). length (kept_from f.b.0 f.s u l)) start ∙ ap length (kept_is f.b.0 f.s l table h)
 
-  -- it can be emptied again
-  pub zeroed_again : zeroed (2 ^ s) t' ≡ zeroed (2 ^ s) table
-  zeroed_again =
-      zeroed_same (2 ^ s) t' table
-      (ap length p.filter ∙ length_filter b s l t ∙ ap length start ∙ length_zeroed (2 ^ s) table)
-      (ap (drop (2 ^ s)) p.filter ∙ drop_after b s l t ∙ ap (drop (2 ^ s)) start ∙ drop_zeroed (2 ^ s) table)
+    -- it can be emptied again
+    pub zeroed_again : zeroed (2 ^ f.s) f'.entries.now ≡ zeroed (2 ^ f.s) table
+    zeroed_again =
+        zeroed_same (2 ^ f.s) f'.entries.now table
+        (ap length p.entries ∙ length_filter f.b.0 f.s l f.entries.now ∙ ap length start ∙ length_zeroed (2 ^ f.s) table)
+        (ap (drop (2 ^ f.s)) p.entries ∙ drop_after f.b.0 f.s l f.entries.now ∙ ap (drop (2 ^ f.s)) start ∙ drop_zeroed (2 ^ f.s) table)

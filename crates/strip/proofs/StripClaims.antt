@@ -17,9 +17,8 @@ use Rattle.cache.proofs.InclusionLaws.{HitToo}
 use Rattle.cache.proofs.GivenLaws.{event_of, events_are}
 use Rattle.cache.proofs.StripLaws.{strip_kept_lem, strip_dropped, strip_misses}
 use Rattle.units.specs.Refusals.{done, short_output}
-use Rattle.strip.specs.declared.Stripped.{Stripped}
 use Rattle.strip.specs.Joined.{kept_in}
-use Rattle.strip.specs.Strip.{kept_of, strip_answer, Strips}
+use Rattle.strip.specs.Strip.{Stripped, kept_of, strip_answer, Strips}
 
 -- ---- what any strip within its contract leaves
 

@@ -1,9 +1,11 @@
 -- The filter as a table of one entry a set, for the contracts of strip's private functions. An entry is a block number plus one, so
 -- that block 0 is no empty entry. That it is the direct-mapped cache is a law (proofs/FilterLaws.antt). Assumes nothing.
-use Rattle.std.specs.Prelude.{ℕ, suc, ◌^◌, ◌≤◌, ◌≡◌, Bool, List, ◌++◌, eqb, ltb, length, drop, get_or, set}
+use Rattle.std.specs.Prelude.{ℕ, suc, ◌^◌, ◌≡◌, Bool, List, eqb, ltb, length, get_or, set}
+use Rattle.std.specs.List.{refill}
 use Rattle.lists.specs.Runs.{after, left_on}
 use Rattle.lists.specs.Tables.{zeroed}
 use Rattle.cache.specs.Cache.{block_of, set_of}
+use Rattle.strip.specs.declared.Filter.{Filter}
 use Rattle.strip.specs.Strip.{kept_of}
 
 -- where the entry of an address's set stands
@@ -25,28 +27,27 @@ kept_from b s t l = left_on (filter_step b s) (is_held b s) t l
 abbrev pub filter_after : ℕ → ℕ → List ℕ → List ℕ → List ℕ
 filter_after b s t l = after (filter_step b s) t l
 
--- what a reference asks: its entry fits 32 bits, and there is an entry for each set
-pub record Passable (b s : ℕ) (t : List ℕ) : Type 0 where
-  pub small : 1 ≤ b
-  pub wide : 2 ^ s ≤ length t
+-- the same lent filter, at the same blocks and sets; its entries are another thing
+pub record Stays (f f' : Filter) : Type 0 where
+  pub entries : f'.entries.ghost_name ≡ f.entries.ghost_name
+  pub blocks : f'.b ≡ f.b
+  pub sets : f'.s ≡ f.s
 
 -- one reference: whether its block is held, and the filter after it
-pub record Refers (b s a : ℕ) (t : List ℕ) (r : Bool) (t' : List ℕ) : Type 0 where
-  pub held : r ≡ is_held b s t a
-  pub filter : t' ≡ filter_step b s t a
+pub record Refers (a : ℕ) (f : Filter) (r : Bool) (f' : Filter) : Type 0 where
+  pub stays : Stays f f'
+  pub held : r ≡ is_held f.b.0 f.s f.entries.now a
+  pub entries : f'.entries.now ≡ filter_step f.b.0 f.s f.entries.now a
 
--- the counting pass: how many are kept, and the filter after it
-pub record Counts (b s : ℕ) (l t : List ℕ) (r : ℕ) (t' : List ℕ) : Type 0 where
-  pub count : r ≡ length (kept_from b s t l)
-  pub filter : t' ≡ filter_after b s t l
-
--- the keeping pass: the same, and they stand at the front of the output
-pub record Keeps (b s : ℕ) (l t out : List ℕ) (r : ℕ) (t' out' : List ℕ) : Type 0 where
-  pub count : r ≡ length (kept_from b s t l)
-  pub filter : t' ≡ filter_after b s t l
-  pub output : out' ≡ kept_from b s t l ++ drop (length (kept_from b s t l)) out
+-- a pass: how many are kept, and the filter after it; they stand at the front of the output, as far as that has room
+pub record Keeps (l : List ℕ) (f : Filter) (out : List ℕ) (r : ℕ) (f' : Filter) (out' : List ℕ) : Type 0 where
+  pub stays : Stays f f'
+  pub count : r ≡ length (kept_from f.b.0 f.s f.entries.now l)
+  pub entries : f'.entries.now ≡ filter_after f.b.0 f.s f.entries.now l
+  pub output : out' ≡ refill (length out) out (kept_from f.b.0 f.s f.entries.now l)
 
 -- the emptied filter, and whether an output of `len` is shorter than what is kept
-pub record Empties (b s : ℕ) (l : List ℕ) (len : ℕ) (t : List ℕ) (r : Bool) (t' : List ℕ) : Type 0 where
-  pub short : r ≡ ltb len (length (kept_of b s l))
-  pub filter : t' ≡ zeroed (2 ^ s) t
+pub record Empties (l : List ℕ) (len : ℕ) (f : Filter) (r : Bool) (f' : Filter) : Type 0 where
+  pub stays : Stays f f'
+  pub short : r ≡ ltb len (length (kept_of f.b.0 f.s l))
+  pub entries : f'.entries.now ≡ zeroed (2 ^ f.s) f.entries.now

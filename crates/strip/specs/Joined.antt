@@ -4,8 +4,7 @@ use Rattle.std.specs.Prelude.{ℕ, ◌≡◌, List, [], ◌∷◌, ◌++◌, map
 use Rattle.lists.specs.Runs.{without}
 use Rattle.cache.specs.Cache.{Given, ref, flush, events_of, simulate, is_hit}
 use Rattle.units.specs.Refusals.{done}
-use Rattle.strip.specs.Strip.{Strips}
-use Rattle.strip.specs.declared.Stripped.{Stripped}
+use Rattle.strip.specs.Strip.{Stripped, Strips}
 
 -- a flush, and then the run, for each of these runs
 abbrev pub after_flushes : List (List ℕ) → List Given

@@ -1,14 +1,15 @@
 -- Strip (SCOPE, "Strip"): what is kept of a list l of addresses at blocks of 2^b bytes and 2^s sets, when it is refused, and
 -- what is left in the filter table and the output. Assumes nothing.
-use Rattle.std.specs.Prelude.{ℕ, suc, ◌^◌, ◌≡◌, cond, not, List, [], ◌∷◌, ◌++◌, map, eqb, ltb, length, drop}
+use Rattle.std.specs.Prelude.{ℕ, suc, ◌^◌, ◌≡◌, cond, not, List, [], ◌∷◌, ◌++◌, map, eqb, ltb, length, drop, Result}
+use Rattle.std.specs.Result.{result_unwrap_or}
 use Rattle.lists.specs.Members.{keep}
 use Rattle.lists.specs.Runs.{without}
 use Rattle.lists.specs.Tables.{zeroed, values_to}
 use Rattle.lists.specs.Tests.{first_of, settled, all_le}
 use Rattle.cache.specs.Cache.{block_of, set_of, simulate, touches_of, is_hit}
-use Rattle.units.specs.Refusals.{outside_limits, short_filter, short_output}
+use Rattle.units.specs.declared.refusal.Refusal.{Refusal}
+use Rattle.units.specs.Refusals.{outside_limits, short_filter, short_output, answer_of}
 use Rattle.order.specs.Limits.{b_least, b_most, s_most}
-use Rattle.strip.specs.declared.Stripped.{Stripped}
 
 -- ---- what is kept
 
@@ -56,6 +57,17 @@ strip_output l b s table out = settled (strip_answer l b s table out) (kept_of b
 -- done: how many were kept; refused: zero
 abbrev pub strip_kept : List ℕ → ℕ → ℕ → List ℕ → List ℕ → ℕ
 strip_kept l b s table out = settled (strip_answer l b s table out) (length (kept_of b s l)) 0
+
+-- ---- the reply
+
+-- how many references were kept, beside the answer number: 0 where that is not 0
+pub record Stripped : Type 0 where
+  pub answer : ℕ
+  pub kept : ℕ
+
+-- what a call says
+abbrev pub stripped : Result ℕ Refusal → Stripped
+stripped r = record { answer = answer_of r; kept = result_unwrap_or r 0 }
 
 -- THE CONTRACT: the answer beside how many were kept, and both tables, on every input
 pub record Strips (l : List ℕ) (b s : ℕ) (table out : List ℕ) (r : Stripped) (table' out' : List ℕ) : Type 0 where
