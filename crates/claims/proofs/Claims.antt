@@ -35,8 +35,7 @@ use Rattle.strip.proofs.StripClaims.{strip_refused, strip_short, strip_untouched
 use Rattle.units.specs.Refusals.{has_column}
 use Rattle.lines.specs.Column.{FirstWrong}
 use Rattle.lines.specs.Said.{trace_said}
-use Rattle.lines.specs.TraceLine.{bad_at, trace_line_of, is_read, is_good}
-use Rattle.lines.specs.declared.TraceLine.{TraceLine}
+use Rattle.lines.specs.TraceLine.{TraceLine, bad_at, trace_line_of, is_read, is_good}
 use Rattle.lines.proofs.ColumnLaws.{column_unique}
 use Rattle.lines.proofs.StageLaws.{long_at_256, taken_if_good, column_right, number_right}
 use Rattle.reading.specs.declared.Tally.{Tally}

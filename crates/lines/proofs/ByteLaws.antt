@@ -7,8 +7,9 @@ use lib.Dec.{leb}
 use borrow.Author.Tests.{ne_eqb}
 use Rattle.lists.proofs.Cases.{cases}
 use Rattle.lists.proofs.CompareLaws.{range_facts}
+use Rattle.std.specs.Prelude.{Some, None}
 use Rattle.lines.specs.Bytes.{is_blank, is_hex, hex_value}
-use Rattle.lines.specs.Parts.{hex_or16}
+use Rattle.lines.specs.Parts.{hex_digit}
 
 -- a hex digit is worth less than 16, and stands above the blanks
 pub hex_facts : (c : ℕ) → is_hex c ≡ true → (hex_value c < 16) × (48 ≤ c)
@@ -24,8 +25,12 @@ hex_no_blank c h =
     let f = hex_facts c h in
     simp (ne_eqb c 32 (λ e. omega arith), ne_eqb c 9 (λ e. omega arith))
 
-pub digit_of_small : (c : ℕ) → hex_or16 c ≤ 15 → (is_hex c ≡ true) × (hex_or16 c ≡ hex_value c)
-digit_of_small c h = cases (is_hex c) (λ e. (e, simp e)) (λ e. absurd (omega (arith, simp e at h)))
+-- what was read of one byte
+pub digit_told : (c d : ℕ) → Some d ≡ hex_digit c → (is_hex c ≡ true) × (d ≡ hex_value c) × (d < 16)
+digit_told c d h =
+    cases (is_hex c)
+    (λ e. let some = simp e at h in let value : d ≡ hex_value c = cc in (e, value, omega (arith, hex_facts c e)))
+    (λ e. let none = simp e at h in cc)
 
-pub no_digit_of_large : (c : ℕ) → 15 < hex_or16 c → is_hex c ≡ false
-no_digit_of_large c h = cases (is_hex c) (λ e. absurd (omega (arith, simp e at h, hex_facts c e))) (λ e. e)
+pub no_digit_told : (c : ℕ) → None ≡ hex_digit c → is_hex c ≡ false
+no_digit_told c h = cases (is_hex c) (λ e. let some = simp e at h in cc) (λ e. e)

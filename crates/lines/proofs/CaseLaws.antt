@@ -12,15 +12,10 @@ use Rattle.lists.proofs.Cases.{picked}
 use Rattle.units.specs.declared.Addr.{Addr}
 use Rattle.units.specs.Refusals.{bad_order_line, bad_label, bad_gap, bad_address, too_long}
 use Rattle.lines.specs.Bytes.{between, is_blank, is_hex, hex_value, longest, past_longest}
-use Rattle.lines.specs.TraceLine.{bad_at, labelled, at_label, at_gap, in_gap, in_address, trace_line_of}
-use Rattle.lines.specs.OrderLine.{value_of, after, is_numbered, is_whole, number_lines, whole_lines, numbered, whole, order_line_of}
-use Rattle.lines.specs.declared.BadLine.{BadLine}
+use Rattle.lines.specs.TraceLine.{BadLine, TraceLine, Ref, Escape, Refused as BadTrace, bad_at, labelled, at_label, at_gap, in_gap, in_address, trace_line_of}
+use Rattle.lines.specs.OrderLine.{OrderLine, Refused, value_of, after, is_numbered, is_whole, number_lines, whole_lines, numbered, whole, order_line_of}
 use Rattle.lines.specs.declared.Kind.{Kind}
 use Rattle.lines.specs.declared.Kind.TheVariants.{Read, Write, Fetch, Unknown}
-use Rattle.lines.specs.declared.OrderLine.{OrderLine}
-use Rattle.lines.specs.declared.OrderLine.TheVariants.{Refused}
-use Rattle.lines.specs.declared.TraceLine.{TraceLine}
-use Rattle.lines.specs.declared.TraceLine.TheVariants.{Ref, Escape, Refused as BadTrace}
 
 -- ---- an order line
 

@@ -4,14 +4,10 @@ use mathlib.Core.Path.{◌≡◌, refl}
 use mathlib.Core.List.{List, [], ◌∷◌, ◌++◌, map}
 use lib.ListN.{replicate}
 use Rattle.lines.specs.Bytes.{text}
-use Rattle.lines.specs.TraceLine.{bad_at, in_address, in_gap, at_gap, at_label, trace_line_of}
-use Rattle.lines.specs.OrderLine.{starts_with, all_decimal, is_number, decimal, numbered, whole, order_line_of}
+use Rattle.lines.specs.TraceLine.{TraceLine, Ref, Escape, bad_at, in_address, in_gap, at_gap, at_label, trace_line_of}
+use Rattle.lines.specs.OrderLine.{OrderLine, Bmin, Refs, Counting, Begin, Refused as RefusedOrder, starts_with, all_decimal, is_number, decimal, numbered, whole, order_line_of}
 use Rattle.lines.specs.declared.Kind.TheVariants.{Read, Write, Fetch, Unknown}
 use Rattle.lines.specs.declared.Kinds.TheVariants.{Data}
-use Rattle.lines.specs.declared.TraceLine.{TraceLine}
-use Rattle.lines.specs.declared.TraceLine.TheVariants.{Ref, Escape}
-use Rattle.lines.specs.declared.OrderLine.{OrderLine}
-use Rattle.lines.specs.declared.OrderLine.TheVariants.{Bmin, Refs, Kinds as Counting, Begin, Refused as RefusedOrder}
 
 -- a comment of n bytes
 abbrev comment : ℕ → List ℕ

@@ -1,55 +1,45 @@
--- Laws of an order line's parts: of names, then of numbers, each from a place of the line on; then of the cases.
+-- Laws of an order line's parts: of words and names, then of numbers, each from a place of the line on; then of the cases.
 -- Assumes nothing.
 use Prim.Native.Nat.{ℕ, suc, ◌+◌, ◌-◌, ◌*◌, ◌≤◌, ◌<◌, min}
-use mathlib.Core.Path.{◌≡◌, refl, sym, ◌∙◌}
-use mathlib.Core.Bool.{Bool, true, false, not, ◌&&◌, ◌||◌, false≢true, and-false, or-true}
+use Prim.Native.Nat.compare.{suc-suc}
+use mathlib.Core.Path.{◌≡◌, refl, ap, ◌∙◌}
+use mathlib.Core.Bool.{Bool, cond, true, false, not, ◌&&◌, ◌||◌, and-false, or-true}
 use mathlib.Core.List.{List, [], ◌∷◌}
 use native.Mathlib.Numerals.{add-one}
 use native.Mathlib.Omega.{arith}
 use lib.Dec.{eqb, leb}
-use lib.ListN.{length, drop, get_or, drop_of_length-le, length-drop}
+use lib.ListN.{length, take, drop, get_or, drop_of_length-le}
+use lib.Pointwise.{pointwise}
 use lib.Seq.{drop-cons}
-use borrow.Author.Tests.{eq-eqb, ne_eqb, le-leb, lt-leb, lt-ltb, le-ltb}
+use borrow.Author.Tests.{eq-eqb, eqb-true, ne_eqb, le-leb, lt-leb, lt-ltb, le-ltb}
+use Rattle.std.specs.Prelude.{Option, Some, None}
+use Rattle.std.specs.Bool.{then_some}
+use Rattle.std.specs.Option.{option_or, ok_or, MatchOption, IsSomeAnd}
 use Rattle.lists.proofs.Cases.{cases}
 use Rattle.lists.proofs.CompareLaws.{at_most_cut, at_least_cut}
 use Rattle.lines.specs.Bytes.{is_decimal}
 use Rattle.units.specs.Refusals.{bad_order_line}
-use Rattle.lines.specs.OrderLine.{starts_with, all_decimal, is_number, decimal, value_of, after, is_numbered, is_whole, number_lines, whole_lines, numbered, whole, order_line_of}
-use Rattle.lines.specs.Parts.{number_of, number_after}
-use Rattle.lines.specs.declared.OrderLine.{OrderLine}
-use Rattle.lines.specs.declared.OrderLine.TheVariants.{Refused}
-use Rattle.lines.specs.declared.decimal.Number.{Number}
-use Rattle.lines.specs.declared.decimal.Number.TheVariants.{Value, Wrong}
+use Rattle.units.specs.declared.refusal.Refusal.TheVariants.{BadOrderLine}
+use Rattle.lines.specs.OrderLine.{OrderLine, Refused, starts_with, all_decimal, is_number, decimal, value_of, after, is_numbered, is_whole, number_lines, whole_lines, numbered, whole, order_line_of}
+use Rattle.lines.specs.Parts.{decimal_number, number_after}
+use Rattle.lines.specs.Results.{good_order, order_read}
+use Rattle.lines.specs.declared.OrderLine.{OrderLine as GoodOrder}
 
--- ---- names
+-- ---- words and names, as the library compares them
 
-module _ (name line : List ℕ) (i : ℕ) where
-  pub starts_more : i < length name → i < length line → get_or line i 0 ≡ get_or name i 0
-      → starts_with (drop i name) (drop i line) ≡ starts_with (drop (i + 1) name) (drop (i + 1) line)
-  unfolding starts_with
-  starts_more h g e = rw (drop-cons name i 0 h, drop-cons line i 0 g, add-one i) (simp (eq-eqb (get_or line i 0) (get_or name i 0) e))
-
-  pub starts_other : i < length name → i < length line → (get_or line i 0 ≡ get_or name i 0 → ⊥)
-      → starts_with (drop i name) (drop i line) ≡ false
-  unfolding starts_with
-  starts_other h g e = rw (drop-cons name i 0 h, drop-cons line i 0 g) (simp (ne_eqb (get_or line i 0) (get_or name i 0) e))
-
-  pub starts_short : i < length name → length line ≤ i → starts_with (drop i name) (drop i line) ≡ false
-  unfolding starts_with
-  starts_short h g = rw (drop-cons name i 0 h, drop_of_length-le line g) refl
-
-  pub starts_end : length name ≤ i → starts_with (drop i name) (drop i line) ≡ true
-  unfolding starts_with
-  starts_end h = rw (drop_of_length-le name h) refl
-
-pub starts_length : (name line : List ℕ) → starts_with name line ≡ true → length name ≤ length line
+pub starts_by_bytes : (name line : List ℕ) → pointwise eqb (take (length name) line) name ≡ starts_with name line
 unfolding starts_with
-starts_length [] line h = omega arith
-starts_length (c ∷ name) [] h = absurd (false≢true h)
-starts_length (c ∷ name) (x ∷ line) h =
-    cases (eqb x c)
-    (λ e. omega (arith, starts_length name line (simp e at h)))
-    (λ e. absurd (false≢true (simp e at h)))
+starts_by_bytes [] line = refl
+starts_by_bytes (c ∷ name) [] = refl
+starts_by_bytes (c ∷ name) (x ∷ line) = ap (eqb x c &&◌) (starts_by_bytes name line)
+
+pub whole_by_bytes : (bytes line : List ℕ) → pointwise eqb line bytes ≡ is_whole bytes line
+unfolding starts_with
+whole_by_bytes [] [] = refl
+whole_by_bytes [] (x ∷ line) = simp (ne_eqb (suc (length line)) 0 (λ e. omega arith))
+whole_by_bytes (c ∷ bytes) [] = simp and-false
+whole_by_bytes (c ∷ bytes) (x ∷ line) =
+    cases (eqb x c) (λ e. simp (e, suc-suc) (whole_by_bytes bytes line)) (λ e. simp (e, and-false))
 
 -- ---- numbers
 
@@ -74,47 +64,38 @@ module _ (l : List ℕ) (i : ℕ) where
   unfolding decimal
   decimal_end v h = rw (drop_of_length-le l h) refl
 
--- the number that stands from a place on
+-- the three tests, where there is a byte
+tests : (l : List ℕ) → 0 < length l → is_number l ≡ all_decimal l && leb (length l) 10 && (not (eqb (get_or l 0 0) 48) || eqb (length l) 1)
+unfolding is_number
+tests [] h = absurd (omega arith)
+tests (c ∷ rest) h = refl
 
-module _ (l : List ℕ) (from : ℕ) where
-  wrong : is_number (drop from l) ≡ false → number_of (drop from l) ≡ Wrong
+pub number_none : (l : List ℕ) → length l ≡ 0 → decimal_number l ≡ None
+unfolding is_number
+number_none [] h = refl
+number_none (c ∷ rest) h = absurd (omega arith)
+
+module _ (l : List ℕ) (some : 0 < length l) where
+  wrong : is_number l ≡ false → decimal_number l ≡ None
   wrong e = simp e
 
-  right : (v : ℕ) → is_number (drop from l) ≡ true → decimal 0 (drop from l) ≡ v → number_of (drop from l) ≡ Value (min v 4294967295)
-  right v e f = simp (e, f)
+  pub number_long : 10 < length l → decimal_number l ≡ None
+  number_long h = wrong (tests l some ∙ simp (lt-leb (length l) 10 h, and-false))
 
-  pub number_none : length l - from ≡ 0 → number_of (drop from l) ≡ Wrong
-  unfolding is_number
-  number_none h = let past : length l ≤ from = omega arith in rw (drop_of_length-le l past) refl
+  pub number_zeros : get_or l 0 0 ≡ 48 → 1 < length l → decimal_number l ≡ None
+  number_zeros e h = wrong (tests l some ∙ simp (eq-eqb (get_or l 0 0) 48 e, ne_eqb (length l) 1 (λ z. omega arith), and-false))
 
-  module _ (some : from < length l) where
-    -- the three tests, where there is a byte
-    tests : is_number (drop from l)
-        ≡ all_decimal (drop from l) && leb (length l - from) 10 && (not (eqb (get_or l from 0) 48) || eqb (length l - from) 1)
-    unfolding is_number
-    tests =
-        let long : suc (length (drop (suc from) l)) ≡ length l - from = simp length-drop (omega arith) in
-        rw (drop-cons l from 0 some, long) refl
+  pub number_other : all_decimal l ≡ false → decimal_number l ≡ None
+  number_other e = wrong (tests l some ∙ simp e)
 
-    pub number_long : 10 < length l - from → number_of (drop from l) ≡ Wrong
-    number_long h = wrong (tests ∙ simp (lt-leb (length l - from) 10 h, and-false))
-
-    pub number_zeros : get_or l from 0 ≡ 48 → (length l - from ≡ 1 → ⊥) → number_of (drop from l) ≡ Wrong
-    number_zeros e h = wrong (tests ∙ simp (eq-eqb (get_or l from 0) 48 e, ne_eqb (length l - from) 1 h, and-false))
-
-    pub number_other : all_decimal (drop from l) ≡ false → number_of (drop from l) ≡ Wrong
-    number_other e = wrong (tests ∙ simp e)
-
-    pub number_zero : get_or l from 0 ≡ 48 → length l - from ≡ 1 → number_of (drop from l) ≡ Value 0
-    number_zero e h =
-        let last : length l ≤ from + 1 = omega arith in
-        let decimals = digits_more l from some (simp e) ∙ digits_end l (from + 1) last in
-        right 0 (tests ∙ simp (decimals, h, or-true)) (decimal_more l from 0 some ∙ decimal_end l (from + 1) _ last ∙ rw e refl)
-
-    pub number_right : (v : ℕ) → length l - from ≤ 10 → (get_or l from 0 ≡ 48 → ⊥)
-        → all_decimal (drop from l) ≡ true → decimal 0 (drop from l) ≡ v
-        → number_of (drop from l) ≡ Value (min v 4294967295)
-    number_right v h n e = right v (tests ∙ simp (e, le-leb (length l - from) 10 h, ne_eqb (get_or l from 0) 48 n))
+  pub number_right : length l ≤ 10 → (get_or l 0 0 ≡ 48 → length l ≤ 1) → all_decimal l ≡ true → decimal_number l ≡ Some (min (decimal 0 l) 4294967295)
+  number_right h zero e =
+      let last : not (eqb (get_or l 0 0) 48) || eqb (length l) 1 ≡ true =
+      cases (eqb (get_or l 0 0) 48)
+      (λ f. let one : length l ≡ 1 = omega (arith, zero (eqb-true (get_or l 0 0) 48 f)) in simp (eq-eqb (length l) 1 one, or-true))
+      (λ f. simp f) in
+      let is : is_number l ≡ true = tests l some ∙ simp (e, le-leb (length l) 10 h, last) in
+      simp is
 
 -- the value handed on is within a limit exactly where the number itself is, from above and from below
 
@@ -124,50 +105,77 @@ at_most_handed_on digits limit h = at_most_cut (decimal 0 digits) 4294967295 lim
 pub at_least_handed_on : (digits : List ℕ) (limit : ℕ) → limit ≤ 4294967295 → leb limit (value_of digits) ≡ leb limit (decimal 0 digits)
 at_least_handed_on digits limit h = at_least_cut (decimal 0 digits) 4294967295 limit h
 
--- ---- the line, by the first of the cases that fits: `r` is what was found of it
+-- ---- the line, by the first of the cases that fits
 
-module _ (n : List ℕ × (ℕ → OrderLine)) (more : List (List ℕ × (ℕ → OrderLine))) (line : List ℕ) (else : OrderLine) (r : Number)
-    (found : r ≡ number_after n.0 line) where
-  pub numbered_not : r ≡ Wrong → numbered (n ∷ more) line else ≡ numbered more line else
-  unfolding numbered
-  numbered_not e =
+-- what was read of a line, or else what the cases left say
+abbrev pub read_or : OrderLine → Option GoodOrder → OrderLine
+read_or else (Some line) = good_order line
+read_or else None = else
+
+read_first : (else : OrderLine) (found next : Option GoodOrder) → read_or else (option_or found next) ≡ read_or (read_or else next) found
+read_first else None next = refl
+read_first else (Some line) next = refl
+
+-- the cases left begin with one: its line was read where the test holds
+next : (test : Bool) (x else : OrderLine) (found line_of r : Option GoodOrder) → read_or else line_of ≡ cond test x else
+    → r ≡ option_or found line_of → read_or else r ≡ read_or (cond test x else) found
+next test x else found line_of r e f =
+    ap (read_or else) f ∙ read_first else found line_of ∙ ap (λ (l : OrderLine). read_or l found) e
+
+module _ (line : List ℕ) where
+  -- a name and a number
+  mapped_line : (else : OrderLine) (n : List ℕ × (ℕ → OrderLine)) (read : ℕ → GoodOrder) (number : Option ℕ) (line_of : Option GoodOrder) → ((v : ℕ) → good_order (read v) ≡ n.1 v)
+      → number ≡ number_after n.0 line → MatchOption number (line_of ≡ None) (λ v. IsSomeAnd line_of (λ l. l ≡ read v))
+      → read_or else line_of ≡ cond (is_numbered n.0 line) (n.1 (value_of (after n.0 line))) else
+  mapped_line else n read None line_of s e m =
       cases (is_numbered n.0 line)
-      (λ t. let value = simp t at found in let z : ◌≡◌ {A = ℕ} 0 1 = cc (value, e) in absurd (omega arith))
-      (λ t. simp t)
-
-  pub numbered_is : (v : ℕ) → r ≡ Value v → numbered (n ∷ more) line else ≡ n.1 v
-  unfolding numbered
-  numbered_is v e =
+      (λ t. let some = simp t at e in cc)
+      (λ t. simp t (ap (read_or else) m))
+  mapped_line else n read (Some v) None s e m = absurd m
+  mapped_line else n read (Some v) (Some l) s e m =
       cases (is_numbered n.0 line)
-      (λ t. let value = simp t at found in let same : value_of (after n.0 line) ≡ v = cc (value, e) in simp (t, same))
-      (λ t. let value = simp t at found in let z : ◌≡◌ {A = ℕ} 0 1 = cc (value, e) in absurd (omega arith))
+      (λ t. let some = simp t at e in let value : v ≡ value_of (after n.0 line) = cc in simp t (ap good_order m ∙ s v ∙ ap n.1 value))
+      (λ t. let none = simp t at e in cc)
 
-module _ (w : List ℕ × OrderLine) (more : List (List ℕ × OrderLine)) (line : List ℕ) (else : OrderLine) (r : Bool)
-    (found : r ≡ is_whole w.0 line) where
-  pub whole_not : r ≡ false → whole (w ∷ more) line else ≡ whole more line else
-  unfolding whole
-  whole_not e = let fails = sym found ∙ e in simp fails
+  pub number_next : (else : OrderLine) (found : Option GoodOrder) (n : List ℕ × (ℕ → OrderLine)) (more : List (List ℕ × (ℕ → OrderLine))) (read : ℕ → GoodOrder) (number : Option ℕ)
+      (line_of r : Option GoodOrder) → ((v : ℕ) → good_order (read v) ≡ n.1 v) → number ≡ number_after n.0 line
+      → MatchOption number (line_of ≡ None) (λ v. IsSomeAnd line_of (λ l. l ≡ read v)) → r ≡ option_or found line_of
+      → read_or (numbered more line else) r ≡ read_or (numbered (n ∷ more) line else) found
+  unfolding numbered
+  number_next else found n more read number line_of r s e m f =
+      next (is_numbered n.0 line) (n.1 (value_of (after n.0 line))) (numbered more line else) found line_of r
+      (mapped_line (numbered more line else) n read number line_of s e m) f
 
-  pub whole_is : r ≡ true → whole (w ∷ more) line else ≡ w.1
+  -- a whole line
+  pub whole_next : (else : OrderLine) (found : Option GoodOrder) (w : List ℕ × OrderLine) (more : List (List ℕ × OrderLine)) (read : GoodOrder) (t : Bool) (line_of r : Option GoodOrder)
+      → good_order read ≡ w.1 → t ≡ is_whole w.0 line → line_of ≡ then_some t read → r ≡ option_or found line_of
+      → read_or (whole more line else) r ≡ read_or (whole (w ∷ more) line else) found
   unfolding whole
-  whole_is e = let fits = sym found ∙ e in simp fits
+  whole_next else found w more read t line_of r s e m f =
+      let is : read_or (whole more line else) line_of ≡ cond (is_whole w.0 line) w.1 (whole more line else) =
+      cases (is_whole w.0 line) (λ h. simp (m, e, h) s) (λ h. simp (m, e, h)) in
+      next (is_whole w.0 line) w.1 (whole more line else) found line_of r is f
 
 abbrev pub words : List ℕ → OrderLine
 words line = whole whole_lines line (Refused bad_order_line)
 
--- nothing is left to try
-pub no_number : (line : List ℕ) (else : OrderLine) → numbered [] line else ≡ else
-unfolding numbered
-no_number line else = refl
-
-pub no_whole : (line : List ℕ) (else : OrderLine) → whole [] line else ≡ else
+-- where nothing is left to try, the line is bad
+pub last_whole : (line : List ℕ) (found : Option GoodOrder)
+    → order_read (ok_or found BadOrderLine) ≡ read_or (whole [] line (Refused bad_order_line)) found
 unfolding whole
-no_whole line else = refl
+last_whole line None = refl
+last_whole line (Some read) = refl
+
+-- after the numbers come the whole lines
+pub last_number : (line : List ℕ) (found : Option GoodOrder) → read_or (words line) found ≡ read_or (numbered [] line (words line)) found
+unfolding numbered
+last_number line found = refl
 
 pub order_long : (line : List ℕ) → 255 < length line → order_line_of line ≡ Refused bad_order_line
 unfolding order_line_of
 order_long line h = simp (lt-ltb 255 (length line) h)
 
-pub order_short : (line : List ℕ) → length line ≤ 255 → order_line_of line ≡ numbered number_lines line (words line)
+pub order_short : (line : List ℕ) → length line ≤ 255
+    → order_line_of line ≡ numbered number_lines line (whole whole_lines line (Refused bad_order_line))
 unfolding order_line_of
 order_short line h = simp (le-ltb 255 (length line) h)

@@ -12,11 +12,8 @@ use Rattle.lists.proofs.Cases.{picked}
 use Rattle.units.specs.Refusals.{bad_label, bad_gap, bad_address}
 use Rattle.lines.specs.Bytes.{text, between, is_blank, is_hex, hex_value, longest}
 use Rattle.lines.specs.Column.{CanGoOn, FirstWrong}
-use Rattle.lines.specs.TraceLine.{bad_at, labelled, in_address, in_gap, at_gap, at_label, trace_line_of, is_read, is_good}
+use Rattle.lines.specs.TraceLine.{BadLine, TraceLine, Ref, Escape, Refused, bad_at, labelled, in_address, in_gap, at_gap, at_label, trace_line_of, is_read, is_good}
 use Rattle.lines.specs.Said.{trace_said}
-use Rattle.lines.specs.declared.BadLine.{BadLine}
-use Rattle.lines.specs.declared.TraceLine.{TraceLine}
-use Rattle.lines.specs.declared.TraceLine.TheVariants.{Ref, Escape, Refused}
 use Rattle.lines.proofs.CaseLaws.{labelled_cases, label_cases}
 use Rattle.lines.proofs.ColumnLaws.{WrongAfter, wrong_end, wrong_byte, wrong_later, first_wrong}
 use Rattle.lines.proofs.SaidLaws.{trace_said_unique}

@@ -2,65 +2,54 @@
 -- Assumes nothing.
 use Prim.Native.Nat.{ℕ, suc, ◌+◌, ◌*◌, ◌≤◌, ◌<◌}
 use mathlib.Core.Path.{◌≡◌, refl, ap, ap₂, ◌∙◌}
-use mathlib.Core.Bool.{true, false, ◌&&◌, and-true}
+use mathlib.Core.Bool.{true, false, cond, ◌&&◌, and-true}
 use mathlib.Core.List.{List, [], ◌∷◌}
 use native.Mathlib.Nat.{zero-add, add-zero}
 use native.Mathlib.Numerals.{add-one}
 use native.Mathlib.Omega.{arith}
 use lib.Dec.{ltb}
-use lib.ListN.{length, drop, get_or, drop_of_length-le, length-drop}
-use lib.Seq.{drop-cons, drop-drop, drop-length}
+use Rattle.std.specs.List.{prefix_len}
+use Rattle.std.proofs.lemmas.List.{length-take}
+use lib.ListN.{length, drop, get_or}
+use lib.Seq.{drop-cons, drop-length}
 use borrow.Author.Tests.{lt-ltb, le-ltb}
 use Rattle.lists.proofs.Cases.{cases}
-use Rattle.lines.specs.Bytes.{between, is_blank, is_hex, hex_value, past_longest}
+use Rattle.lines.specs.Bytes.{is_blank, is_hex, hex_value, past_longest}
 use Rattle.units.specs.Refusals.{bad_label, bad_gap, bad_address, too_long}
 use Rattle.lines.specs.TraceLine.{bad_at, labelled, at_label, at_gap, in_gap, in_address, trace_line_of}
-use Rattle.lines.specs.Parts.{blanks}
+use Rattle.lines.specs.Parts.{is_label, blanks}
 use Rattle.lines.proofs.ByteLaws.{hex_no_blank}
 
--- ---- the label
+-- ---- the blanks at the front: here byte by byte, and `blanks` counts them as the library does
 
-label_none : (l : List ℕ) → length l ≡ 0 → at_label l ≡ bad_at bad_label 1
-unfolding at_label
-label_none [] h = refl
-label_none (c ∷ rest) h = absurd (omega arith)
+leading : List ℕ → ℕ
+leading [] = 0
+leading (c ∷ rest) = cond (is_blank c) (suc (leading rest)) 0
 
-label_wrong : (l : List ℕ) → 0 < length l → between "0" "4" (get_or l 0 0) ≡ false → at_label l ≡ bad_at bad_label 1
-unfolding at_label
-label_wrong [] h e = absurd (omega arith)
-label_wrong (c ∷ rest) h e = simp e
+leading_length : (l : List ℕ) → leading l ≤ length l
+unfolding leading
+leading_length [] = omega arith
+leading_length (c ∷ rest) = let ih = leading_length rest in cases (is_blank c) (λ e. simp e (omega arith)) (λ e. simp e (omega arith))
 
-label_right : (l : List ℕ) → 0 < length l → between "0" "4" (get_or l 0 0) ≡ true → at_label l ≡ at_gap (get_or l 0 0) (drop 1 l)
-unfolding at_label
-label_right [] h e = absurd (omega arith)
-label_right (c ∷ rest) h e = simp e
+leading_first : (l : List ℕ) → prefix_len (λ c. is_blank c) l ≡ leading l
+unfolding leading
+leading_first [] = refl
+leading_first (c ∷ rest) = cases (is_blank c) (λ e. simp e (omega (arith, leading_first rest))) (λ e. simp e)
 
--- ---- how many blanks stand at a place
-
-module _ (l : List ℕ) (i : ℕ) where
-  pub blanks_more : i < length l → is_blank (get_or l i 0) ≡ true → i + blanks (drop i l) ≡ i + 1 + blanks (drop (i + 1) l)
-  unfolding blanks
-  blanks_more h e = rw (drop-cons l i 0 h, add-one i) (simp e (omega arith))
-
-  pub blanks_stop : i < length l → is_blank (get_or l i 0) ≡ false → i + blanks (drop i l) ≡ i
-  unfolding blanks
-  blanks_stop h e = rw (drop-cons l i 0 h) (simp e (omega arith))
-
-  pub blanks_end : length l ≤ i → i + blanks (drop i l) ≡ i
-  unfolding blanks
-  blanks_end h = rw (drop_of_length-le l h) (omega arith)
+leading_blanks : (l : List ℕ) → blanks l ≡ leading l
+leading_blanks l = simp length-take (omega (arith, leading_first l, leading_length l))
 
 -- ---- the gap
 
 module _ (label : ℕ) where
-  gap_none : (l : List ℕ) → blanks l ≡ 0 → at_gap label l ≡ bad_at bad_gap 2
-  unfolding at_gap blanks
+  gap_none : (l : List ℕ) → leading l ≡ 0 → at_gap label l ≡ bad_at bad_gap 2
+  unfolding at_gap leading
   gap_none [] h = refl
   gap_none (c ∷ rest) h = cases (is_blank c) (λ e. absurd (omega (arith, simp e at h))) (λ e. simp e)
 
   -- blanks to the end of the line
-  past_blanks : (l : List ℕ) (k : ℕ) → length l ≤ blanks l → in_gap label k l ≡ bad_at bad_address (k + length l)
-  unfolding in_gap blanks
+  past_blanks : (l : List ℕ) (k : ℕ) → length l ≤ leading l → in_gap label k l ≡ bad_at bad_address (k + length l)
+  unfolding in_gap leading
   past_blanks [] k h = ap (bad_at bad_address) (omega arith)
   past_blanks (c ∷ rest) k h =
       cases (is_blank c)
@@ -68,76 +57,84 @@ module _ (label : ℕ) where
       (λ e. absurd (omega (arith, simp e at h)))
 
   -- a byte that is no blank comes after them
-  to_address : (l : List ℕ) (k : ℕ) → blanks l < length l → in_gap label k l ≡ in_address label 0 0 (k + blanks l) (drop (blanks l) l)
-  unfolding in_gap in_address blanks
+  to_address : (l : List ℕ) (k : ℕ) → leading l < length l → in_gap label k l ≡ in_address label 0 0 (k + leading l) (drop (leading l) l)
+  unfolding in_gap in_address leading
   to_address [] k h = absurd (omega arith)
   to_address (c ∷ rest) k h =
       cases (is_blank c)
       (λ e.
-      let further : k + 1 + blanks rest ≡ k + suc (blanks rest) = omega arith in
-      simp e (to_address rest (k + 1) (omega (arith, simp e at h)) ∙ ap (λ (j : ℕ). in_address label 0 0 j (drop (blanks rest) rest)) further))
+      let further : k + 1 + leading rest ≡ k + suc (leading rest) = omega arith in
+      simp e (to_address rest (k + 1) (omega (arith, simp e at h)) ∙ ap (λ (j : ℕ). in_address label 0 0 j (drop (leading rest) rest)) further))
       (λ e. simp (e, and-true, zero-add, add-zero))
 
-  gap_ended : (l : List ℕ) → 0 < blanks l → length l ≤ blanks l → at_gap label l ≡ bad_at bad_address (2 + length l)
-  unfolding at_gap blanks
+  gap_ended : (l : List ℕ) → 0 < leading l → length l ≤ leading l → at_gap label l ≡ bad_at bad_address (2 + length l)
+  unfolding at_gap leading
   gap_ended [] p h = absurd (omega arith)
   gap_ended (c ∷ rest) p h =
       cases (is_blank c)
       (λ e. simp e (past_blanks rest 3 (omega (arith, simp e at h)) ∙ ap (bad_at bad_address) (omega arith)))
       (λ e. absurd (omega (arith, simp e at p)))
 
-  gap_right : (l : List ℕ) → 0 < blanks l → blanks l < length l → at_gap label l ≡ in_address label 0 0 (2 + blanks l) (drop (blanks l) l)
-  unfolding at_gap blanks
+  gap_right : (l : List ℕ) → 0 < leading l → leading l < length l → at_gap label l ≡ in_address label 0 0 (2 + leading l) (drop (leading l) l)
+  unfolding at_gap leading
   gap_right [] p h = absurd (omega arith)
   gap_right (c ∷ rest) p h =
       cases (is_blank c)
       (λ e.
-      let further : 3 + blanks rest ≡ 2 + suc (blanks rest) = omega arith in
-      simp e (to_address rest 3 (omega (arith, simp e at h)) ∙ ap (λ (j : ℕ). in_address label 0 0 j (drop (blanks rest) rest)) further))
+      let further : 3 + leading rest ≡ 2 + suc (leading rest) = omega arith in
+      simp e (to_address rest 3 (omega (arith, simp e at h)) ∙ ap (λ (j : ℕ). in_address label 0 0 j (drop (leading rest) rest)) further))
       (λ e. absurd (omega (arith, simp e at p)))
 
--- ---- a line from its start to its address: the label stands first, and the blanks after it end at `start`
-
-blanks_length : (l : List ℕ) → blanks l ≤ length l
-unfolding blanks
-blanks_length [] = omega arith
-blanks_length (c ∷ rest) = let ih = blanks_length rest in cases (is_blank c) (λ e. simp e (omega arith)) (λ e. simp e (omega arith))
+-- ---- a line from its start to its address
 
 pub too_long_lem : (l : List ℕ) → 255 < length l → trace_line_of l ≡ bad_at too_long past_longest
 unfolding trace_line_of
 too_long_lem l h = simp (lt-ltb 255 (length l) h)
 
-module _ (l : List ℕ) (short : length l ≤ 255) where
-  pub not_long : trace_line_of l ≡ at_label l
-  unfolding trace_line_of
-  not_long = simp (le-ltb 255 (length l) short)
+pub not_long : (l : List ℕ) → length l ≤ 255 → trace_line_of l ≡ at_label l
+unfolding trace_line_of
+not_long l h = simp (le-ltb 255 (length l) h)
 
-  pub line_empty : length l ≡ 0 → trace_line_of l ≡ bad_at bad_label 1
-  line_empty h = not_long ∙ label_none l h
+pub line_empty : (l : List ℕ) → length l ≡ 0 → trace_line_of l ≡ bad_at bad_label 1
+unfolding trace_line_of at_label
+line_empty [] h = refl
+line_empty (c ∷ rest) h = absurd (omega arith)
 
-  pub line_label_wrong : 0 < length l → between "0" "4" (get_or l 0 0) ≡ false → trace_line_of l ≡ bad_at bad_label 1
-  line_label_wrong h e = not_long ∙ label_wrong l h e
+-- the label stands first, and n blanks after it
+module _ (l : List ℕ) (label : ℕ) (rest : List ℕ) (is : l ≡ label ∷ rest) (short : length l ≤ 255) where
+  at_first : trace_line_of l ≡ cond (is_label label) (at_gap label rest) (bad_at bad_label 1)
+  unfolding at_label
+  at_first = not_long l short ∙ ap at_label is
 
-  module _ (some : 0 < length l) (right : between "0" "4" (get_or l 0 0) ≡ true) (start : ℕ) (at : start ≡ 1 + blanks (drop 1 l)) where
-    to_gap : trace_line_of l ≡ at_gap (get_or l 0 0) (drop 1 l)
-    to_gap = not_long ∙ label_right l some right
+  pub line_label_wrong : is_label label ≡ false → trace_line_of l ≡ bad_at bad_label 1
+  line_label_wrong e = at_first ∙ simp e
 
-    pub start_within : start ≤ length l
-    start_within = omega (arith, blanks_length (drop 1 l), length-drop 1 l)
+  module _ (right : is_label label ≡ true) (n : ℕ) (at : n ≡ blanks rest) where
+    to_gap : trace_line_of l ≡ at_gap label rest
+    to_gap = at_first ∙ simp right
 
-    pub line_no_gap : start ≡ 1 → trace_line_of l ≡ bad_at bad_gap 2
-    line_no_gap h = to_gap ∙ gap_none (get_or l 0 0) (drop 1 l) (omega arith)
+    more : length l ≡ 1 + length rest
+    more = ap length is ∙ omega arith
 
-    pub line_no_address : (start ≡ 1 → ⊥) → start ≡ length l → trace_line_of l ≡ bad_at bad_address (length l + 1)
-    line_no_address n h =
-        to_gap ∙ gap_ended (get_or l 0 0) (drop 1 l) (omega (arith, n)) (omega (arith, length-drop 1 l))
-        ∙ ap (bad_at bad_address) (omega (arith, length-drop 1 l))
+    front : n ≡ leading rest
+    front = at ∙ leading_blanks rest
 
-    pub line_address : (start ≡ 1 → ⊥) → start < length l → trace_line_of l ≡ in_address (get_or l 0 0) 0 0 (start + 1) (drop start l)
-    line_address n h =
-        let column : 2 + blanks (drop 1 l) ≡ start + 1 = omega arith in
-        to_gap ∙ gap_right (get_or l 0 0) (drop 1 l) (omega (arith, n)) (omega (arith, length-drop 1 l))
-        ∙ ap₂ (in_address (get_or l 0 0) 0 0) column (rw (drop-drop, ← at) refl)
+    pub start_within : 1 + n ≤ length l
+    start_within = omega (arith, front, more, leading_length rest)
+
+    pub line_no_gap : 1 + n ≡ 1 → trace_line_of l ≡ bad_at bad_gap 2
+    line_no_gap h = to_gap ∙ gap_none label rest (omega (arith, front))
+
+    pub line_no_address : (1 + n ≡ 1 → ⊥) → 1 + n ≡ length l → trace_line_of l ≡ bad_at bad_address (length l + 1)
+    line_no_address some h =
+        to_gap ∙ gap_ended label rest (omega (arith, front, some)) (omega (arith, front, more)) ∙ ap (bad_at bad_address) (omega (arith, more))
+
+    pub line_address : (1 + n ≡ 1 → ⊥) → 1 + n < length l → trace_line_of l ≡ in_address label 0 0 (1 + n + 1) (drop (1 + n) l)
+    line_address some h =
+        let column : 2 + leading rest ≡ 1 + n + 1 = omega (arith, front) in
+        let next : 1 + n ≡ suc (leading rest) = omega (arith, front) in
+        to_gap ∙ gap_right label rest (omega (arith, front, some)) (omega (arith, front, more))
+        ∙ ap₂ (in_address label 0 0) column (rw (next, is) refl)
 
 -- ---- the address: after n digits of the value v, at the place i and the column k
 

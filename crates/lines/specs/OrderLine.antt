@@ -10,8 +10,18 @@ use Rattle.lines.specs.TraceLine.{label_of}
 use Rattle.lines.specs.declared.Kind.{Kind}
 use Rattle.lines.specs.declared.Kinds.{Kinds}
 use Rattle.lines.specs.declared.Kinds.TheVariants.{All, Fetch, Data}
-use Rattle.lines.specs.declared.OrderLine.{OrderLine}
-use Rattle.lines.specs.declared.OrderLine.TheVariants.{Bmin, Bmax, Smax, Ways, Room, Refs, Kinds as Counting, Begin, Refused}
+
+pub data OrderLine : Type 0 where
+  Bmin : ℕ → OrderLine
+  Bmax : ℕ → OrderLine
+  Smax : ℕ → OrderLine
+  Ways : ℕ → OrderLine
+  Room : ℕ → OrderLine
+  Refs : ℕ → OrderLine
+  Counting : Kinds → OrderLine
+  Begin : OrderLine
+  -- the refusal number
+  Refused : ℕ → OrderLine
 
 -- the line starts with these bytes
 unfoldable pub starts_with : List ℕ → List ℕ → Bool

@@ -2,12 +2,8 @@
 -- where none is told; and the values that the line gives. Two answers that say the same are the same. Assumes nothing.
 use Rattle.std.specs.Prelude.{ℕ, List, [], ◌∷◌}
 use Rattle.units.specs.Refusals.{done}
-use Rattle.lines.specs.TraceLine.{label_of}
-use Rattle.lines.specs.OrderLine.{labels_of}
-use Rattle.lines.specs.declared.TraceLine.{TraceLine}
-use Rattle.lines.specs.declared.TraceLine.TheVariants.{Ref, Escape, Refused as BadTrace}
-use Rattle.lines.specs.declared.OrderLine.{OrderLine}
-use Rattle.lines.specs.declared.OrderLine.TheVariants.{Bmin, Bmax, Smax, Ways, Room, Refs, Kinds as Counting, Begin, Refused as BadOrder}
+use Rattle.lines.specs.TraceLine.{TraceLine, Ref, Escape, Refused as BadTrace, label_of}
+use Rattle.lines.specs.OrderLine.{OrderLine, Bmin, Bmax, Smax, Ways, Room, Refs, Counting, Begin, Refused as BadOrder, labels_of}
 
 pub record Said : Type 0 where
   pub number : ℕ

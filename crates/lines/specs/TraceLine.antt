@@ -8,8 +8,19 @@ use Rattle.units.specs.Refusals.{bad_label, bad_gap, bad_address, too_long}
 use Rattle.lines.specs.Bytes.{between, is_blank, is_hex, hex_value, longest, past_longest}
 use Rattle.lines.specs.declared.Kind.{Kind}
 use Rattle.lines.specs.declared.Kind.TheVariants.{Read, Write, Fetch, Unknown}
-use Rattle.lines.specs.declared.TraceLine.{TraceLine}
-use Rattle.lines.specs.declared.TraceLine.TheVariants.{Ref, Escape, Refused}
+use Rattle.units.specs.declared.Addr.{Addr}
+
+-- why a line is refused, and where
+pub record BadLine : Type 0 where
+  -- the refusal number
+  pub number : ℕ
+  pub column : ℕ
+
+pub data TraceLine : Type 0 where
+  Ref : Kind → Addr → TraceLine
+  -- label 4, an escape: well-formed, and no reference
+  Escape : TraceLine
+  Refused : BadLine → TraceLine
 
 -- refused with a number, at a column
 abbrev pub bad_at : ℕ → ℕ → TraceLine

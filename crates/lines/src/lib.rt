@@ -3,19 +3,22 @@
 #![tactic(auto)]
 
 ghost use Rattle.std.specs.Prelude.{◌≡◌, ◌+◌, ◌≤◌};
+ghost use Rattle.units.specs.Refusals.{number_of};
 ghost use Rattle.lines.specs.TraceLine.{bad_at, labelled, trace_line_of};
 ghost use Rattle.lines.specs.OrderLine.{order_line_of, counts_kind};
 ghost use Rattle.lines.specs.Said.{trace_said, order_said};
+ghost use Rattle.lines.specs.Parts.{is_label};
+ghost use Rattle.lines.specs.Results.{good_trace, bad_trace, trace_read, order_read};
 
-use decimal::{Number, is_whole, number_after};
-use hex::{gap_end, hex_digits, is_blank};
-use units::{Addr, refusal};
+use decimal::{is_whole, number_after};
+use hex::{blanks, hex_digits, is_blank};
+use units::{Addr, Refusal};
 
 mod decimal;
 mod hex;
 
 // What a reference does: labels 0 to 3.
-#[derive(Clone, Copy)]
+#[derive(Clone, Copy, Debug, PartialEq, Eq)]
 pub enum Kind {
     Read,
     Write,
@@ -23,34 +26,32 @@ pub enum Kind {
     Unknown,
 }
 
-// Why a line of the trace is refused, and where: at the first byte that cannot stand there, or one past the end.
-// Columns are bytes, counted from 1.
-#[derive(Clone, Copy)]
-pub struct BadLine {
-    // The refusal number.
-    pub number: u32,
-    pub column: u32,
-}
-
-// What a line of the trace reads as.
-#[derive(Clone, Copy)]
+// What a good line of the trace reads as.
+#[derive(Clone, Copy, Debug, PartialEq, Eq)]
 pub enum TraceLine {
     Ref(Kind, Addr),
     // Label 4, an escape: well-formed, and no reference.
     Escape,
-    Refused(BadLine),
+}
+
+// Why a line of the trace is refused, and where: at the first byte that cannot stand there, or one past the end.
+// Columns are bytes, counted from 1.
+#[derive(Clone, Copy, Debug, PartialEq, Eq)]
+pub struct BadLine {
+    pub refusal: Refusal,
+    pub column: u32,
 }
 
 // What an order counts: labels 0 to 3, label 2, or labels 0 and 1.
-#[derive(Clone, Copy)]
+#[derive(Clone, Copy, Debug, PartialEq, Eq)]
 pub enum Kinds {
     All,
     Fetch,
     Data,
 }
 
-// What a line of the order reads as. A number above 32 bits is handed on as 4294967295, outside every limit.
-#[derive(Clone, Copy)]
+// What a good line of the order reads as. A number above 32 bits is handed on as 4294967295, outside every limit.
+#[derive(Clone, Copy, Debug, PartialEq, Eq)]
 pub enum OrderLine {
     Bmin(u32),
     Bmax(u32),
@@ -60,8 +61,6 @@ pub enum OrderLine {
     Refs(u32),
     Kinds(Kinds),
     Begin,
-    // The refusal number.
-    Refused(u32),
 }
 
 // "One line buffer of 255 bytes": the longest line, its LF not counted.
@@ -70,9 +69,16 @@ pub const LONGEST: usize = 255;
 // The column of the first byte that it has no room for.
 pub const PAST_LONGEST: u32 = 256;
 
+// A label of the format.
+fn is_label(b: u8) -> bool
+    ensures { result ≡ is_label b }
+{
+    matches!(b, b'0'..=b'4')
+}
+
 // A well-formed line with this label and address.
 fn labelled(label: u8, address: u32) -> TraceLine
-    ensures { result ≡ labelled label address }
+    ensures { good_trace result ≡ labelled label address }
 {
     match label {
         b'0' => TraceLine::Ref(Kind::Read, Addr(address)),
@@ -84,89 +90,63 @@ fn labelled(label: u8, address: u32) -> TraceLine
 }
 
 // A line that is wrong at the byte of this place, counted from 0.
-fn bad_at(number: u32, place: usize) -> TraceLine
+fn bad_at(refusal: Refusal, place: usize) -> BadLine
     requires { place ≤ 255 }
-    ensures { result ≡ bad_at number (place + 1) }
+    ensures { bad_trace result ≡ bad_at (number_of refusal) (place + 1) }
 {
-    let column = place as u32 + 1;
-    TraceLine::Refused(BadLine { number, column })
+    BadLine {
+        refusal,
+        column: place as u32 + 1,
+    }
 }
 
 // Reads a line of the trace, in one pass: the label, the gap, the address, and what follows it.
-pub fn trace_line(line: &[u8]) -> TraceLine
-    ensures { trace_said result ≡ trace_said (trace_line_of line.now) }
+pub fn trace_line(line: &[u8]) -> Result<TraceLine, BadLine>
+    ensures { trace_said (trace_read result) ≡ trace_said (trace_line_of line.now) }
 {
-    let len = line.len();
-    if len > LONGEST {
-        return bad_at(refusal::TOO_LONG, LONGEST);
+    if line.len() > LONGEST {
+        return Err(bad_at(Refusal::TooLong, LONGEST));
     }
-    if len == 0 {
-        return bad_at(refusal::BAD_LABEL, 0);
+    let Some((label, rest)) = line.split_first() else {
+        return Err(bad_at(Refusal::BadLabel, 0));
+    };
+    if !is_label(*label) {
+        return Err(bad_at(Refusal::BadLabel, 0));
     }
-    let label = line[0];
-    if label < b'0' {
-        return bad_at(refusal::BAD_LABEL, 0);
-    }
-    if label > b'4' {
-        return bad_at(refusal::BAD_LABEL, 0);
-    }
-    let start = gap_end(line, 1);
+    let start = 1 + blanks(rest);
     if start == 1 {
-        return bad_at(refusal::BAD_GAP, 1);
+        return Err(bad_at(Refusal::BadGap, 1));
     }
-    if start == len {
-        return bad_at(refusal::BAD_ADDRESS, len);
+    if start == line.len() {
+        return Err(bad_at(Refusal::BadAddress, line.len()));
     }
-    let address = hex_digits(line, start);
-    let end = address.end;
-    let value = address.value;
-    if end == len {
-        return labelled(label, value);
+    let address = hex_digits(&line[start..]);
+    let end = start + address.count;
+    if end < line.len() && !is_blank(line[end]) {
+        return Err(bad_at(Refusal::BadAddress, end));
     }
-    if is_blank(line[end]) {
-        return labelled(label, value);
-    }
-    bad_at(refusal::BAD_ADDRESS, end)
+    Ok(labelled(*label, address.value))
 }
 
 // Reads a line of the order, wherever it stands in it.
-pub fn order_line(line: &[u8]) -> OrderLine
-    ensures { order_said result ≡ order_said (order_line_of line.now) }
+pub fn order_line(line: &[u8]) -> Result<OrderLine, Refusal>
+    ensures { order_said (order_read result) ≡ order_said (order_line_of line.now) }
 {
     if line.len() > LONGEST {
-        return OrderLine::Refused(refusal::BAD_ORDER_LINE);
+        return Err(Refusal::BadOrderLine);
     }
-    if let Number::Value(n) = number_after(line, b"bmin=") {
-        return OrderLine::Bmin(n);
-    }
-    if let Number::Value(n) = number_after(line, b"bmax=") {
-        return OrderLine::Bmax(n);
-    }
-    if let Number::Value(n) = number_after(line, b"smax=") {
-        return OrderLine::Smax(n);
-    }
-    if let Number::Value(n) = number_after(line, b"ways=") {
-        return OrderLine::Ways(n);
-    }
-    if let Number::Value(n) = number_after(line, b"room=") {
-        return OrderLine::Room(n);
-    }
-    if let Number::Value(n) = number_after(line, b"refs=") {
-        return OrderLine::Refs(n);
-    }
-    if is_whole(line, b"kinds=all") {
-        return OrderLine::Kinds(Kinds::All);
-    }
-    if is_whole(line, b"kinds=fetch") {
-        return OrderLine::Kinds(Kinds::Fetch);
-    }
-    if is_whole(line, b"kinds=data") {
-        return OrderLine::Kinds(Kinds::Data);
-    }
-    if is_whole(line, b"begin=din") {
-        return OrderLine::Begin;
-    }
-    OrderLine::Refused(refusal::BAD_ORDER_LINE)
+    number_after(line, b"bmin=")
+        .map(OrderLine::Bmin)
+        .or(number_after(line, b"bmax=").map(OrderLine::Bmax))
+        .or(number_after(line, b"smax=").map(OrderLine::Smax))
+        .or(number_after(line, b"ways=").map(OrderLine::Ways))
+        .or(number_after(line, b"room=").map(OrderLine::Room))
+        .or(number_after(line, b"refs=").map(OrderLine::Refs))
+        .or(is_whole(line, b"kinds=all").then_some(OrderLine::Kinds(Kinds::All)))
+        .or(is_whole(line, b"kinds=fetch").then_some(OrderLine::Kinds(Kinds::Fetch)))
+        .or(is_whole(line, b"kinds=data").then_some(OrderLine::Kinds(Kinds::Data)))
+        .or(is_whole(line, b"begin=din").then_some(OrderLine::Begin))
+        .ok_or(Refusal::BadOrderLine)
 }
 
 impl Kinds {
@@ -176,18 +156,8 @@ impl Kinds {
     {
         match self {
             Kinds::All => true,
-            Kinds::Fetch => match kind {
-                Kind::Read => false,
-                Kind::Write => false,
-                Kind::Fetch => true,
-                Kind::Unknown => false,
-            },
-            Kinds::Data => match kind {
-                Kind::Read => true,
-                Kind::Write => true,
-                Kind::Fetch => false,
-                Kind::Unknown => false,
-            },
+            Kinds::Fetch => matches!(kind, Kind::Fetch),
+            Kinds::Data => matches!(kind, Kind::Read | Kind::Write),
         }
     }
 }

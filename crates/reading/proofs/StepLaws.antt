@@ -17,11 +17,9 @@ use Rattle.taking.specs.Opening.{open_answer, opened, unopened, Opens}
 use Rattle.taking.specs.Taking.{take_answer, taken, Takes}
 use Rattle.units.specs.declared.Addr.{Addr}
 use Rattle.units.specs.Refusals.{bad_order_line}
-use Rattle.lines.specs.declared.BadLine.{BadLine}
 use Rattle.lines.specs.declared.Kind.{Kind}
-use Rattle.lines.specs.declared.TraceLine.TheVariants.{Ref}
 use Rattle.lines.specs.Bytes.{longest}
-use Rattle.lines.specs.TraceLine.{trace_line_of}
+use Rattle.lines.specs.TraceLine.{BadLine, Ref, trace_line_of}
 use Rattle.lines.specs.OrderLine.{order_line_of, counts_kind}
 use Rattle.reading.specs.Reading.{kinds_next, begin_next, trace_next, at_line, with_stage, with_tally, one_flushed, with_reading, world_of, with_world}
 use Rattle.reading.specs.Reading.{Desk, desk, outcome, answered, stays}

@@ -6,8 +6,7 @@ use Rattle.units.specs.Refusals.{done, bad_order_line}
 use Rattle.order.specs.declared.Order.{Order}
 use Rattle.taking.specs.Opening.{open_answer, opened}
 use Rattle.lines.specs.declared.Kinds.{Kinds}
-use Rattle.lines.specs.declared.OrderLine.{OrderLine}
-use Rattle.lines.specs.declared.OrderLine.TheVariants.{Bmin, Bmax, Smax, Ways, Room, Refs, Kinds as Counting, Begin, Refused as BadOrder}
+use Rattle.lines.specs.OrderLine.{OrderLine, Bmin, Bmax, Smax, Ways, Room, Refs, Counting, Begin, Refused as BadOrder}
 use Rattle.reading.specs.declared.Head.{Head}
 use Rattle.reading.specs.declared.Reading.{Reading}
 use Rattle.reading.specs.declared.Step.{Step}

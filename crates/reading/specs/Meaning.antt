@@ -4,10 +4,7 @@ use Rattle.std.specs.Prelude.{ℕ, cond, List, [], ◌∷◌, ◌++◌}
 use Rattle.lists.specs.Sums.{total}
 use Rattle.cache.specs.Cache.{Given, ref, flush, flushed}
 use Rattle.lines.specs.declared.Kinds.{Kinds}
-use Rattle.lines.specs.declared.BadLine.{BadLine}
-use Rattle.lines.specs.declared.TraceLine.{TraceLine}
-use Rattle.lines.specs.declared.TraceLine.TheVariants.{Ref, Escape, Refused as BadTrace}
-use Rattle.lines.specs.TraceLine.{trace_line_of}
+use Rattle.lines.specs.TraceLine.{BadLine, TraceLine, Ref, Escape, Refused as BadTrace, trace_line_of}
 use Rattle.lines.specs.OrderLine.{counts_kind}
 use Rattle.reading.specs.declared.Tally.{Tally}
 use Rattle.reading.specs.Reading.{one_skipped, one_flushed}

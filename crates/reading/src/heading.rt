@@ -19,18 +19,17 @@ pub(crate) fn order_step(
     ensures { outcome result.answer (desk result.next stacks.new counts.new)
         ≡ order_step (desk reading stacks.old counts.old) (order_line_of line.now) }
 {
-    let read = order_line(line);
-    match read {
-        OrderLine::Bmin(n) => number(reading, stage::BMIN, n),
-        OrderLine::Bmax(n) => number(reading, stage::BMAX, n),
-        OrderLine::Smax(n) => number(reading, stage::SMAX, n),
-        OrderLine::Ways(n) => number(reading, stage::WAYS, n),
-        OrderLine::Room(n) => number(reading, stage::ROOM, n),
-        OrderLine::Refs(n) => number(reading, stage::REFS, n),
-        OrderLine::Kinds(kinds) => counting(reading, kinds),
-        OrderLine::Begin => begin(reading, stacks, counts),
-        OrderLine::Refused(answer) => Step {
-            answer,
+    match order_line(line) {
+        Ok(OrderLine::Bmin(n)) => number(reading, stage::BMIN, n),
+        Ok(OrderLine::Bmax(n)) => number(reading, stage::BMAX, n),
+        Ok(OrderLine::Smax(n)) => number(reading, stage::SMAX, n),
+        Ok(OrderLine::Ways(n)) => number(reading, stage::WAYS, n),
+        Ok(OrderLine::Room(n)) => number(reading, stage::ROOM, n),
+        Ok(OrderLine::Refs(n)) => number(reading, stage::REFS, n),
+        Ok(OrderLine::Kinds(kinds)) => counting(reading, kinds),
+        Ok(OrderLine::Begin) => begin(reading, stacks, counts),
+        Err(refusal) => Step {
+            answer: u32::from(refusal),
             next: reading,
         },
     }

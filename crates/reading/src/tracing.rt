@@ -1,7 +1,7 @@
 // A line of the trace: a reference that is counted is taken, an escape flushes, and any other good line is skipped.
 ghost use Rattle.std.specs.Prelude.{ℕ, ◌≡◌, List};
 ghost use Rattle.cache.specs.Cache.{ref, flush as Given·flush};
-ghost use Rattle.units.specs.Refusals.{done};
+ghost use Rattle.units.specs.Refusals.{done, number_of};
 ghost use Rattle.reading.specs.Meaning.{gives, skips, meaning_of, tallied};
 ghost use Rattle.reading.specs.Reading.{one_more, desk, outcome, answered, at_line, with_tally};
 ghost use Rattle.reading.specs.Step.{trace_step};
@@ -19,9 +19,8 @@ pub(crate) fn trace_step(
     ensures { outcome result.answer (desk result.next stacks.new counts.new)
         ≡ trace_step (desk reading stacks.old counts.old) (meaning_of reading.head.kinds line.now) }
 {
-    let read = trace_line(line);
-    match read {
-        TraceLine::Ref(kind, a) => {
+    match trace_line(line) {
+        Ok(TraceLine::Ref(kind, a)) => {
             let head = reading.head;
             let kinds = head.kinds;
             if kinds.counts(kind) {
@@ -30,19 +29,19 @@ pub(crate) fn trace_step(
                 pass(reading)
             }
         }
-        TraceLine::Escape => flush(reading, stacks),
-        TraceLine::Refused(bad) => refused(reading, bad),
+        Ok(TraceLine::Escape) => flush(reading, stacks),
+        Err(bad) => refused(reading, bad),
     }
 }
 
 // The line is bad.
 fn refused(reading: Reading, bad: BadLine) -> Step
-    ensures { result ≡ answered bad.number (at_line reading.lines bad.column reading) }
+    ensures { result ≡ answered (number_of bad.refusal) (at_line reading.lines bad.column reading) }
 {
     let mut next = reading;
     next.column = bad.column;
     Step {
-        answer: bad.number,
+        answer: u32::from(bad.refusal),
         next,
     }
 }

@@ -17,10 +17,8 @@ use Rattle.taking.specs.Opening.{unopened}
 use Rattle.calls.specs.Answers.{answer_after}
 use Rattle.calls.proofs.AnswerLaws.{after_cases}
 use Rattle.lines.specs.declared.Kinds.{Kinds}
-use Rattle.lines.specs.declared.OrderLine.{OrderLine}
-use Rattle.lines.specs.declared.TraceLine.{TraceLine}
-use Rattle.lines.specs.OrderLine.{order_line_of, counts_kind}
-use Rattle.lines.specs.TraceLine.{bad_at, trace_line_of}
+use Rattle.lines.specs.OrderLine.{OrderLine, order_line_of, counts_kind}
+use Rattle.lines.specs.TraceLine.{TraceLine, bad_at, trace_line_of}
 use Rattle.lines.proofs.CaseLaws.{trace_cases}
 use Rattle.reading.specs.Meaning.{Meaning, gives, skips, meant, meaning_of, column_or, given_by}
 use Rattle.reading.specs.Reading.{desk, start, Outcome}

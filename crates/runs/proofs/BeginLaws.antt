@@ -13,9 +13,7 @@ use Rattle.order.specs.declared.Order.{Order}
 use Rattle.taking.specs.World.{World}
 use Rattle.taking.specs.Opening.{open_answer, opened}
 use Rattle.lines.specs.declared.Kinds.TheVariants.{All, Fetch, Data}
-use Rattle.lines.specs.declared.OrderLine.{OrderLine}
-use Rattle.lines.specs.declared.OrderLine.TheVariants.{Bmin, Bmax, Smax, Ways, Room, Refs, Begin, Refused as BadOrder}
-use Rattle.lines.specs.OrderLine.{order_line_of}
+use Rattle.lines.specs.OrderLine.{OrderLine, Bmin, Bmax, Smax, Ways, Room, Refs, Begin, Refused as BadOrder, order_line_of}
 use Rattle.lines.proofs.CaseLaws.{order_cases}
 use Rattle.reading.specs.declared.Reading.{Reading}
 use Rattle.reading.specs.Reading.{kinds_next, begin_next, trace_next, Desk, world_of, Outcome, outcome}

@@ -19,9 +19,7 @@ use Rattle.taking.specs.World.{World}
 use Rattle.taking.specs.Opening.{open_answer, unopened}
 use Rattle.calls.proofs.AnswerLaws.{after_cases}
 use Rattle.lines.specs.declared.Kinds.{Kinds}
-use Rattle.lines.specs.declared.OrderLine.{OrderLine}
-use Rattle.lines.specs.declared.OrderLine.TheVariants.{Bmin, Bmax, Smax, Ways, Room, Refs, Kinds as Counting, Begin, Refused as BadOrder}
-use Rattle.lines.specs.OrderLine.{order_line_of}
+use Rattle.lines.specs.OrderLine.{OrderLine, Bmin, Bmax, Smax, Ways, Room, Refs, Counting, Begin, Refused as BadOrder, order_line_of}
 use Rattle.reading.specs.Meaning.{Meaning, meaning_of, column_or, given_by}
 use Rattle.reading.specs.Reading.{desk, start, Outcome}
 use Rattle.reading.specs.Step.{lines_most}

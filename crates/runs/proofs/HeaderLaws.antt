@@ -11,8 +11,7 @@ use Rattle.lists.proofs.Cases.{both_picked}
 use Rattle.lists.proofs.LengthLaws.{six_cases}
 use Rattle.lines.specs.declared.Kinds.{Kinds}
 use Rattle.lines.specs.declared.Kinds.TheVariants.{All}
-use Rattle.lines.specs.declared.OrderLine.{OrderLine}
-use Rattle.lines.specs.declared.OrderLine.TheVariants.{Bmin, Bmax, Smax, Ways, Room, Refs, Kinds as Counting}
+use Rattle.lines.specs.OrderLine.{OrderLine, Bmin, Bmax, Smax, Ways, Room, Refs, Counting}
 use Rattle.reading.specs.declared.Head.{Head}
 use Rattle.reading.specs.declared.Reading.{Reading}
 use Rattle.reading.specs.declared.Step.{Step}

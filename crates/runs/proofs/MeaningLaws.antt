@@ -13,7 +13,7 @@ use Rattle.cache.specs.Cache.{Given, ref, flush, referred, flushed}
 use Rattle.units.specs.Refusals.{bad_label, bad_gap, bad_address, too_long}
 use Rattle.lines.specs.Bytes.{past_longest}
 use Rattle.lines.specs.declared.Kinds.{Kinds}
-use Rattle.lines.specs.declared.TraceLine.{TraceLine}
+use Rattle.lines.specs.TraceLine.{TraceLine}
 use Rattle.lines.specs.OrderLine.{counts_kind}
 use Rattle.lines.proofs.CaseLaws.{trace_cases}
 use Rattle.reading.specs.declared.Tally.{Tally}

@@ -12,8 +12,7 @@ use Rattle.lists.proofs.Cases.{picked}
 use Rattle.taking.specs.Opening.{open_answer}
 use Rattle.lines.specs.declared.Kinds.{Kinds}
 use Rattle.lines.specs.declared.Kinds.TheVariants.{All, Fetch, Data}
-use Rattle.lines.specs.declared.OrderLine.{OrderLine}
-use Rattle.lines.specs.OrderLine.{order_line_of}
+use Rattle.lines.specs.OrderLine.{OrderLine, order_line_of}
 use Rattle.lines.proofs.CaseLaws.{order_cases}
 use Rattle.reading.specs.declared.Reading.{Reading}
 use Rattle.reading.specs.declared.Step.{Step}

@@ -18,8 +18,7 @@ use Rattle.order.specs.declared.Order.{Order}
 use Rattle.order.specs.Limits.{limits}
 use Rattle.taking.specs.Questions.{Counted, has, misses_of}
 use Rattle.lines.specs.declared.Kinds.{Kinds}
-use Rattle.lines.specs.declared.OrderLine.{OrderLine}
-use Rattle.lines.specs.OrderLine.{order_line_of}
+use Rattle.lines.specs.OrderLine.{OrderLine, order_line_of}
 use Rattle.reading.specs.declared.Step.{Step}
 use Rattle.reading.specs.declared.Tally.{Tally}
 use Rattle.reading.specs.Reading.{trace_next, start, Desk, desk, world_of, Outcome, stays}

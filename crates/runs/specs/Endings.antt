@@ -7,9 +7,7 @@ use Rattle.order.specs.declared.Order.{Order}
 use Rattle.taking.specs.World.{World}
 use Rattle.taking.specs.Opening.{open_answer}
 use Rattle.calls.specs.Answers.{answer_after}
-use Rattle.lines.specs.declared.OrderLine.{OrderLine}
-use Rattle.lines.specs.declared.OrderLine.TheVariants.{Bmin, Bmax, Smax, Ways, Room, Refs, Kinds as Counting, Begin, Refused as BadOrder}
-use Rattle.lines.specs.OrderLine.{order_line_of}
+use Rattle.lines.specs.OrderLine.{OrderLine, Bmin, Bmax, Smax, Ways, Room, Refs, Counting, Begin, Refused as BadOrder, order_line_of}
 use Rattle.reading.specs.Meaning.{Meaning, gives, skips, fails, column_or, given_by}
 use Rattle.reading.specs.Reading.{Outcome}
 use Rattle.reading.specs.Step.{lines_most}

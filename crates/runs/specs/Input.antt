@@ -6,9 +6,7 @@ use Rattle.order.specs.declared.Order.{Order}
 use Rattle.lines.specs.Bytes.{longest}
 use Rattle.lines.specs.declared.Kinds.{Kinds}
 use Rattle.lines.specs.declared.Kinds.TheVariants.{All}
-use Rattle.lines.specs.declared.OrderLine.{OrderLine}
-use Rattle.lines.specs.declared.OrderLine.TheVariants.{Bmin, Bmax, Smax, Ways, Room, Refs, Kinds as Counting, Begin, Refused as BadOrder}
-use Rattle.lines.specs.OrderLine.{order_line_of}
+use Rattle.lines.specs.OrderLine.{OrderLine, Bmin, Bmax, Smax, Ways, Room, Refs, Counting, Begin, Refused as BadOrder, order_line_of}
 use Rattle.reading.specs.declared.Step.{Step}
 use Rattle.reading.specs.Meaning.{Meaning, meaning_of, given_in}
 use Rattle.reading.specs.Reading.{Desk, Outcome, outcome, stays}

@@ -1,119 +1,33 @@
--- `order_line` meets its contract: each case that fails takes the definition on to the next, and the first that fits decides.
--- Assumes nothing.
-use Prim.Native.Nat.{ℕ}
-use mathlib.Core.Path.{◌≡◌, ◌∙◌}
-use mathlib.Core.List.{List}
+-- `order_line` meets its contract: from the last case back to the first, what the cases left would read is what is read where the case
+-- before fails. Assumes nothing.
+use mathlib.Core.Path.{refl, sym, ap, ◌∙◌}
 use lib.ListN.{drop}
 use Rattle.units.specs.Refusals.{bad_order_line}
-use Rattle.lines.specs.OrderLine.{number_lines, whole_lines, numbered, whole, order_line_of}
-use Rattle.lines.specs.declared.OrderLine.TheVariants.{Refused}
-use Rattle.lines.proofs.OrderLaws.{numbered_not, numbered_is, whole_not, whole_is, words, no_number, no_whole, order_long, order_short}
+use Rattle.lines.specs.OrderLine.{Refused, number_lines, whole_lines}
+use Rattle.lines.specs.declared.OrderLine.TheVariants.{Bmin as GoodBmin, Bmax as GoodBmax, Smax as GoodSmax, Ways as GoodWays, Room as GoodRoom, Refs as GoodRefs, Kinds as GoodKinds, Begin as GoodBegin}
+use Rattle.lines.specs.declared.Kinds.TheVariants.{All, Fetch, Data}
+use Rattle.std.specs.Prelude.{None}
 use Rattle.lines.proofs.SaidLaws.{order_says}
+use Rattle.lines.specs.Results.{order_read}
+use Rattle.lines.proofs.OrderLaws.{number_next, words, last_whole, last_number, whole_next, order_long, order_short}
 use Rattle.lines.proofs.order_line.Goals as goal
-use Rattle.lines.proofs.order_line.Goals.{In_default, In_default-number_after, In_default-number_after-2, In_default-number_after-3, In_default-number_after-4, In_default-number_after-5, Else-is_whole, Else-is_whole-2, Else-is_whole-3}
-
--- the first k cases fail: the others decide
-abbrev PastNumbers : ℕ → List ℕ → Type 0
-PastNumbers k line = order_line_of line ≡ numbered (drop k number_lines) line (words line)
-
-abbrev PastWholes : ℕ → List ℕ → Type 0
-PastWholes k line = order_line_of line ≡ whole (drop k whole_lines) line (Refused bad_order_line)
-
--- at each place where a case has just failed
-past_bmin : (c : In_default) → PastNumbers 1 c.args.line.now
-past_bmin c = order_short _ c.if-line-gt-LONGEST.false ∙ numbered_not _ _ _ _ _ c.number_after.ensures c.in_default.is
-
-past_bmax : (c : In_default-number_after) → PastNumbers 2 c.args.line.now
-past_bmax c =
-    past_bmin (goal.at.In_default-number_after c).In_default
-    ∙ numbered_not _ _ _ _ _ c.number_after-2.ensures c.in_default-number_after.is
-
-past_smax : (c : In_default-number_after-2) → PastNumbers 3 c.args.line.now
-past_smax c =
-    past_bmax (goal.at.In_default-number_after-2 c).In_default-number_after
-    ∙ numbered_not _ _ _ _ _ c.number_after-3.ensures c.in_default-number_after-2.is
-
-past_ways : (c : In_default-number_after-3) → PastNumbers 4 c.args.line.now
-past_ways c =
-    past_smax (goal.at.In_default-number_after-3 c).In_default-number_after-2
-    ∙ numbered_not _ _ _ _ _ c.number_after-4.ensures c.in_default-number_after-3.is
-
-past_room : (c : In_default-number_after-4) → PastNumbers 5 c.args.line.now
-past_room c =
-    past_ways (goal.at.In_default-number_after-4 c).In_default-number_after-3
-    ∙ numbered_not _ _ _ _ _ c.number_after-5.ensures c.in_default-number_after-4.is
-
-past_refs : (c : In_default-number_after-5) → PastNumbers 6 c.args.line.now
-past_refs c =
-    past_room (goal.at.In_default-number_after-5 c).In_default-number_after-4
-    ∙ numbered_not _ _ _ _ _ c.number_after-6.ensures c.in_default-number_after-5.is
-
-past_all : (c : Else-is_whole) → PastWholes 1 c.args.line.now
-past_all c =
-    past_refs (goal.at.Else-is_whole c).In_default-number_after-5
-    ∙ no_number _ _
-    ∙ whole_not _ _ _ _ _ c.is_whole.ensures c.if-is_whole.false
-
-past_fetch : (c : Else-is_whole-2) → PastWholes 2 c.args.line.now
-past_fetch c = past_all (goal.at.Else-is_whole-2 c).Else-is_whole ∙ whole_not _ _ _ _ _ c.is_whole-2.ensures c.if-is_whole-2.false
-
-past_data : (c : Else-is_whole-3) → PastWholes 3 c.args.line.now
-past_data c = past_fetch (goal.at.Else-is_whole-3 c).Else-is_whole-2 ∙ whole_not _ _ _ _ _ c.is_whole-3.ensures c.if-is_whole-3.false
 
 pub returns-then-line-gt-LONGEST : goal.returns-then-line-gt-LONGEST
 returns-then-line-gt-LONGEST c = order_says (order_long _ c.if-line-gt-LONGEST.true)
 
-pub returns-in-Value : goal.returns-in-Value
-returns-in-Value c = order_says (order_short _ c.if-line-gt-LONGEST.false ∙ numbered_is _ _ _ _ _ c.number_after.ensures _ c.in-Value.is)
-
-pub returns-in-Value-number_after : goal.returns-in-Value-number_after
-returns-in-Value-number_after c =
-    order_says (past_bmin (goal.at.returns-in-Value-number_after c).In_default
-    ∙ numbered_is _ _ _ _ _ c.number_after-2.ensures _ c.in-Value-number_after.is)
-
-pub returns-in-Value-number_after-2 : goal.returns-in-Value-number_after-2
-returns-in-Value-number_after-2 c =
-    order_says (past_bmax (goal.at.returns-in-Value-number_after-2 c).In_default-number_after
-    ∙ numbered_is _ _ _ _ _ c.number_after-3.ensures _ c.in-Value-number_after-2.is)
-
-pub returns-in-Value-number_after-3 : goal.returns-in-Value-number_after-3
-returns-in-Value-number_after-3 c =
-    order_says (past_smax (goal.at.returns-in-Value-number_after-3 c).In_default-number_after-2
-    ∙ numbered_is _ _ _ _ _ c.number_after-4.ensures _ c.in-Value-number_after-3.is)
-
-pub returns-in-Value-number_after-4 : goal.returns-in-Value-number_after-4
-returns-in-Value-number_after-4 c =
-    order_says (past_ways (goal.at.returns-in-Value-number_after-4 c).In_default-number_after-3
-    ∙ numbered_is _ _ _ _ _ c.number_after-5.ensures _ c.in-Value-number_after-4.is)
-
-pub returns-in-Value-number_after-5 : goal.returns-in-Value-number_after-5
-returns-in-Value-number_after-5 c =
-    order_says (past_room (goal.at.returns-in-Value-number_after-5 c).In_default-number_after-4
-    ∙ numbered_is _ _ _ _ _ c.number_after-6.ensures _ c.in-Value-number_after-5.is)
-
-pub returns-then-is_whole : goal.returns-then-is_whole
-returns-then-is_whole c =
-    order_says (past_refs (goal.at.returns-then-is_whole c).In_default-number_after-5
-    ∙ no_number _ _
-    ∙ whole_is _ _ _ _ _ c.is_whole.ensures c.if-is_whole.true)
-
-pub returns-then-is_whole-2 : goal.returns-then-is_whole-2
-returns-then-is_whole-2 c =
-    order_says (past_all (goal.at.returns-then-is_whole-2 c).Else-is_whole
-    ∙ whole_is _ _ _ _ _ c.is_whole-2.ensures c.if-is_whole-2.true)
-
-pub returns-then-is_whole-3 : goal.returns-then-is_whole-3
-returns-then-is_whole-3 c =
-    order_says (past_fetch (goal.at.returns-then-is_whole-3 c).Else-is_whole-2
-    ∙ whole_is _ _ _ _ _ c.is_whole-3.ensures c.if-is_whole-3.true)
-
-pub returns-then-is_whole-4 : goal.returns-then-is_whole-4
-returns-then-is_whole-4 c =
-    order_says (past_data (goal.at.returns-then-is_whole-4 c).Else-is_whole-3
-    ∙ whole_is _ _ _ _ _ c.is_whole-4.ensures c.if-is_whole-4.true)
-
 pub returns : goal.returns
 returns c =
-    order_says (past_data (goal.at.returns c).Else-is_whole-3
-    ∙ whole_not _ _ _ _ _ c.is_whole-4.ensures c.if-is_whole-4.false
-    ∙ no_whole _ _)
+    let line = c.args.line.now in
+    let bad = Refused bad_order_line in
+    order_says (order_short line c.if-line-gt-LONGEST.false ∙ sym (ap order_read c.ok_or.ensures.value ∙ last_whole line c.or-9.result
+    ∙ whole_next line bad c.or-8.result _ (drop 4 whole_lines) (GoodBegin) _ _ _ refl c.is_whole-4.ensures c.then_some-4.ensures c.or-9.ensures
+    ∙ whole_next line bad c.or-7.result _ (drop 3 whole_lines) (GoodKinds Data) _ _ _ refl c.is_whole-3.ensures c.then_some-3.ensures c.or-8.ensures
+    ∙ whole_next line bad c.or-6.result _ (drop 2 whole_lines) (GoodKinds Fetch) _ _ _ refl c.is_whole-2.ensures c.then_some-2.ensures c.or-7.ensures
+    ∙ whole_next line bad c.or-5.result _ (drop 1 whole_lines) (GoodKinds All) _ _ _ refl c.is_whole.ensures c.then_some.ensures c.or-6.ensures
+    ∙ last_number line c.or-5.result
+    ∙ number_next line (words line) c.or-4.result _ (drop 6 number_lines) GoodRefs _ _ _ (λ v. refl) c.number_after-6.ensures c.map-6.ensures.cases c.or-5.ensures
+    ∙ number_next line (words line) c.or-3.result _ (drop 5 number_lines) GoodRoom _ _ _ (λ v. refl) c.number_after-5.ensures c.map-5.ensures.cases c.or-4.ensures
+    ∙ number_next line (words line) c.or-2.result _ (drop 4 number_lines) GoodWays _ _ _ (λ v. refl) c.number_after-4.ensures c.map-4.ensures.cases c.or-3.ensures
+    ∙ number_next line (words line) c.or.result _ (drop 3 number_lines) GoodSmax _ _ _ (λ v. refl) c.number_after-3.ensures c.map-3.ensures.cases c.or-2.ensures
+    ∙ number_next line (words line) c.map.result _ (drop 2 number_lines) GoodBmax _ _ _ (λ v. refl) c.number_after-2.ensures c.map-2.ensures.cases c.or.ensures
+    ∙ number_next line (words line) None _ (drop 1 number_lines) GoodBmin _ _ _ (λ v. refl) c.number_after.ensures c.map.ensures.cases refl))

@@ -1,46 +1,83 @@
--- `hex_digits` meets its contract. The loop's invariant: after `i - from` digits, worth `value`, the address goes on from `i`. Its value
--- is below that power of 16, so it fits. Assumes nothing.
-use Prim.Native.Nat.{ℕ, suc, ◌+◌, ◌-◌, ◌*◌, ◌^◌, ◌≤◌, ◌<◌}
-use mathlib.Core.Path.{◌≡◌, ◌∙◌}
-use mathlib.Core.Bool.{true}
+-- `hex_digits` meets its contract. Assumes nothing.
+use Prim.Native.Nat.{ℕ, ◌+◌, ◌*◌, ◌^◌, ◌≤◌, ◌<◌, min}
+use mathlib.Core.Path.{◌≡◌, sym, ap, ◌∙◌}
+use mathlib.Core.Bool.{true, false, and-false}
+use mathlib.Core.List.{List}
+use native.Mathlib.Nat.{add-zero}
+use native.Mathlib.Numerals.{add-one}
 use native.Mathlib.Omega.{arith}
-use lib.ListN.{get_or}
-use borrow.Author.Rules.{rules}
+use lib.ListN.{length, take, get_or}
+use borrow.Author.Tests.{le-ltb}
+use Rattle.std.proofs.lemmas.List.{get_or-take, length-take}
 use Rattle.lists.proofs.BitLaws.{numeral_more, numeral_fits}
 use Rattle.lines.specs.Bytes.{is_hex, hex_value}
-use Rattle.lines.specs.Parts.{hex_or16}
-use Rattle.lines.proofs.ByteLaws.{digit_of_small}
+use Rattle.lines.specs.Parts.{hex_digit}
+use Rattle.lines.proofs.ByteLaws.{digit_told, no_digit_told}
 use Rattle.lines.proofs.TraceLaws.{address_more}
 use Rattle.lines.proofs.hex.hex_digits.Goals as goal
+use Rattle.lines.proofs.hex.hex_digits.Goals.{In-Some}
 
--- a hex digit that was read: the byte is one, this is its value, and one more of at most 8 digits fits
-digit : (byte worth : ℕ) → worth ≡ hex_or16 byte → worth ≤ 15 → (is_hex byte ≡ true) × (worth ≡ hex_value byte) × (worth < 16)
-digit byte worth read small =
-    let told = digit_of_small byte (rw read at small) in
-    (told.0, read ∙ told.1, omega arith)
+-- one more of at most 8 digits fits
+fits : (count value digit : ℕ) → value < 16 ^ count → digit < 16 → count < 8 → value * 16 + digit < 16 ^ 8
+fits count value digit below small h = numeral_fits 16 8 count value digit below small h
 
-fits : (count value worth : ℕ) → value < 16 ^ count → worth < 16 → count < 8 → value * 16 + worth < 16 ^ 8
-fits count value worth below small h = numeral_fits 16 8 count value worth below small h
+-- the byte that comes next stands in the line, and is one of the first 8
+module _ (bytes : List ℕ) (most i : ℕ) (is : most ≡ min (length bytes) 8) (more : i < length (take most bytes)) where
+  next : (i < length bytes) × (i < 8) × (get_or (take most bytes) i 0 ≡ get_or bytes i 0)
+  next =
+      let within : i < min most (length bytes) = simp length-take at more in
+      (omega arith, omega arith, get_or-take most bytes i 0 (omega arith))
+
+abbrev byte_of : In-Some → ℕ
+byte_of c = get_or c.args.bytes.now c.loop-count.count 0
+
+told : (c : In-Some) → (is_hex (byte_of c) ≡ true) × (c.in-Some.digit ≡ hex_value (byte_of c)) × (c.in-Some.digit < 16)
+told c =
+    let at = next c.args.bytes.now c.min.result c.loop-count.count c.min.ensures c.loop-count-test.true in
+    digit_told (byte_of c) c.in-Some.digit (sym c.in-Some.is ∙ c.hex_digit.ensures ∙ ap hex_digit at.2)
+
+pub loop-count-init : goal.loop-count-init
+loop-count-init c = (omega arith, λ label k. simp add-zero)
+
+pub returns-in_default : goal.returns-in_default
+returns-in_default c =
+    let at = next c.args.bytes.now c.min.result c.loop-count.count c.min.ensures c.loop-count-test.true in
+    let other : is_hex (get_or c.args.bytes.now c.loop-count.count 0) ≡ false =
+    no_digit_told (get_or c.args.bytes.now c.loop-count.count 0) (sym c.in_default.is ∙ c.hex_digit.ensures ∙ ap hex_digit at.2) in
+    record { within = omega arith; goes_on = λ label k. c.loop-count.invariant.1 label k; ended = λ h. simp other }
 
 pub overflow_mul-value : goal.overflow_mul-value
 overflow_mul-value c =
-    let l = c.loop-i in
-    omega (arith, fits (l.i - c.args.from) l.value c.hex_value-digit.result l.invariant.2 (omega arith) (omega arith))
+    let at = next c.args.bytes.now c.min.result c.loop-count.count c.min.ensures c.loop-count-test.true in
+    omega (arith, fits c.loop-count.count c.loop-count.value c.in-Some.digit c.loop-count.invariant.0 (told c).2 at.1)
 
 pub overflow_add-value : goal.overflow_add-value
 overflow_add-value c =
-    let l = c.loop-i in
-    omega (arith, fits (l.i - c.args.from) l.value c.hex_value-digit.result l.invariant.2 (omega arith) (omega arith))
+    let at = next c.args.bytes.now c.min.result c.loop-count.count c.min.ensures c.loop-count-test.true in
+    omega (arith, fits c.loop-count.count c.loop-count.value c.in-Some.digit c.loop-count.invariant.0 (told c).2 at.1)
 
-pub loop-i-preserved : goal.loop-i-preserved
-loop-i-preserved c =
-    let l = c.loop-i in
-    let n = l.i - c.args.from in
-    let more : l.i + 1 - c.args.from ≡ suc n = omega arith in
-    let told = digit (get_or c.args.line.now l.i 0) c.hex_value-digit.result c.hex_value-digit.ensures (omega arith) in (
-      search rules,
-      search rules,
-      rw more (numeral_more 16 n l.value _ l.invariant.2 told.2),
-      λ label. rw (more, told.1)
-          (l.invariant.3 label ∙ address_more label n l.value (l.i + 1) _ l.i (omega arith) told.0 (omega arith)),
+pub loop-count-preserved : goal.loop-count-preserved
+loop-count-preserved c =
+    let l = c.loop-count in
+    let at = next c.args.bytes.now c.min.result l.count c.min.ensures c.loop-count-test.true in
+    let t = told c in (
+      rw add-one (numeral_more 16 l.count l.value _ l.invariant.0 t.2),
+      λ label k.
+          let column : k + l.count + 1 ≡ k + (l.count + 1) = omega arith in
+          let one = add-one l.count in
+          let before = l.invariant.1 label k in
+          let more = address_more label l.count l.value (k + l.count) c.args.bytes.now l.count at.0 t.0 at.1 in
+          cc,
     )
+
+pub returns : goal.returns
+returns c =
+    let l = c.loop-count in
+    let bytes = c.args.bytes.now in
+    let stop : length (take c.min.result bytes) ≡ min (length bytes) 8 = simp length-take (omega arith) in
+    let last : l.count ≡ length (take c.min.result bytes) = omega arith in
+    rw (← last) record {
+      within = omega arith;
+      goes_on = λ label k. l.invariant.1 label k;
+      ended = λ h. let at_8 : 8 ≤ l.count = omega arith in simp (le-ltb l.count 8 at_8, and-false);
+    }

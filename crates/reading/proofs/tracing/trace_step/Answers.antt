@@ -1,11 +1,10 @@
 -- `trace_step` meets its contract: what the line reads as picks the case. Assumes nothing.
 use mathlib.Core.Path.{◌≡◌, sym, ap, ◌∙◌}
-use Rattle.lines.specs.declared.TraceLine.{TraceLine}
-use Rattle.lines.specs.declared.TraceLine.TheVariants.{Ref, Escape, Refused}
 use mathlib.Core.List.{List}
 use Prim.Native.Nat.{ℕ}
+use Rattle.units.specs.Refusals.{number_of}
 use Rattle.lines.specs.Said.{trace_said}
-use Rattle.lines.specs.TraceLine.{trace_line_of}
+use Rattle.lines.specs.TraceLine.{BadLine, TraceLine, Ref, Escape, Refused, trace_line_of}
 use Rattle.lines.proofs.CaseLaws.{bad_not_done}
 use Rattle.lines.proofs.SaidLaws.{trace_said_unique}
 use Rattle.reading.specs.declared.Step.{Step}
@@ -25,30 +24,30 @@ pub returns-then-counts : goal.returns-then-counts
 returns-then-counts c =
     let a = c.args in
     let d = desk a.reading a.stacks.now a.counts.now in
-    told d a.line.now (Ref c.in-Ref.kind c.in-Ref.a) c.in-Ref.ensures
-    (c.take.ensures ∙ counted_step d c.in-Ref.kind c.in-Ref.a
-    (sym c.counts.ensures ∙ c.if-counts.true))
+    let r = c.in-Ok-Ref in
+    told d a.line.now (Ref r.kind r.a) (rw r.field-0-is at r.ensures)
+    (c.take.ensures ∙ counted_step d r.kind r.a (sym c.counts.ensures ∙ c.if-counts.true))
 
 pub returns-else-counts : goal.returns-else-counts
 returns-else-counts c =
     let a = c.args in
     let d = desk a.reading a.stacks.now a.counts.now in
-    told d a.line.now (Ref c.in-Ref.kind c.in-Ref.a) c.in-Ref.ensures
-    (ap (λ (s : Step). stays s d) c.pass.ensures
-    ∙ passed_step d c.in-Ref.kind c.in-Ref.a (sym c.counts.ensures ∙ c.if-counts.false))
+    let r = c.in-Ok-Ref in
+    told d a.line.now (Ref r.kind r.a) (rw r.field-0-is at r.ensures)
+    (ap (λ (s : Step). stays s d) c.pass.ensures ∙ passed_step d r.kind r.a (sym c.counts.ensures ∙ c.if-counts.false))
 
-pub returns-in-Escape : goal.returns-in-Escape
-returns-in-Escape c =
+pub returns-in-Ok-Escape : goal.returns-in-Ok-Escape
+returns-in-Ok-Escape c =
     let a = c.args in
     let d = desk a.reading a.stacks.now a.counts.now in
-    told d a.line.now Escape c.in-Escape.ensures (c.flush.ensures c.args.counts.now)
+    let r = c.in-Ok-Escape in
+    told d a.line.now Escape (rw r.field-0-is at r.ensures) (c.flush.ensures a.counts.now)
 
-pub returns-in-Refused : goal.returns-in-Refused
-returns-in-Refused c =
+pub returns-in-Err : goal.returns-in-Err
+returns-in-Err c =
     let a = c.args in
     let d = desk a.reading a.stacks.now a.counts.now in
-    let b = c.in-Refused.bad in
-    let same = trace_said_unique (Refused b) (trace_line_of a.line.now) c.in-Refused.ensures in
-    told d a.line.now (Refused b) c.in-Refused.ensures
-    (ap (λ (s : Step). stays s d) c.refused.ensures
-    ∙ failed_step d b (bad_not_done a.line.now b (sym same)))
+    let b : BadLine = record { number = number_of c.in-Err.bad.refusal; column = c.in-Err.bad.column } in
+    let same = trace_said_unique (Refused b) (trace_line_of a.line.now) c.in-Err.ensures in
+    told d a.line.now (Refused b) c.in-Err.ensures
+    (ap (λ (s : Step). stays s d) c.refused.ensures ∙ failed_step d b (bad_not_done a.line.now b (sym same)))
