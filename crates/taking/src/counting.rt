@@ -7,14 +7,13 @@ ghost use Rattle.taking.specs.Parts.{count_most, Rows, Tabled, Raisable, AllRais
 
 use order::Order;
 
-// In the `rows` depths from `base` on, one more at each s up to `shared`.
-pub(crate) fn bump(depths: &mut [u32], base: usize, rows: usize, shared: usize)
-    requires long { base + rows ≤ length depths.old }
-    requires raisable { (s : ℕ) → s < rows → get_or depths.old (base + s) 0 < count_most }
-    ensures { Bumped base rows shared depths.old depths.new }
+// One more at each of the depths up to `shared`.
+pub(crate) fn bump(depths: &mut [u32], shared: u32)
+    requires { (s : ℕ) → s < length depths.old → get_or depths.old s 0 < count_most }
+    ensures { Bumped 0 (length depths.old) shared depths.old depths.new }
 {
-    let end = if shared < rows { shared + 1 } else { rows };
-    for depth in &mut depths[base..base + end] {
+    let end = depths.len().min(shared as usize + 1);
+    for depth in &mut depths[..end] {
         *depth += 1;
     }
 }

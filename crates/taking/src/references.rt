@@ -1,12 +1,12 @@
 // Taking a reference at all block sizes (SCOPE, "The stack and the counts"): the quick way, and the walk.
-ghost use Rattle.std.specs.Prelude.{◌≡◌, ℕ, ◌<◌, true, List, length};
+ghost use Rattle.std.specs.Prelude.{◌≡◌, ℕ, ◌<◌, ◌≤◌, true, List, length, get_or};
 ghost use Rattle.units.specs.Refusals.{answer_of};
-ghost use Rattle.order.specs.Limits.{stack_need, count_need};
+ghost use Rattle.order.specs.Limits.{rows_most, stack_need, count_need};
 ghost use Rattle.cache.specs.Cache.{block_of, ref};
 ghost use Rattle.taking.specs.Places.{block_at};
 ghost use Rattle.taking.specs.World.{world};
 ghost use Rattle.taking.specs.Taking.{Takes};
-ghost use Rattle.taking.specs.Parts.{Fit, Blank, wider_by, on_top, Looked};
+ghost use Rattle.taking.specs.Parts.{count_most, Fit, Blank, wider_by, on_top, Walked, Looked};
 
 use crate::Opened;
 use crate::counting::{bump, is_over, raise_all, raise_tops, tops_over};
@@ -111,26 +111,30 @@ impl Opened {
         let sizes = self.order.sizes();
         let rows = self.order.rows();
         let room = self.order.room as usize;
-        let mut k = 0usize;
-        while k < sizes {
-            let x = first.wider(k as u32);
+        for (k, used) in self.used[..sizes].iter().enumerate() {
             let base = k * room;
-            let len = self.used[k] as usize;
-            let mut i = 0usize;
-            let place = loop {
-                if i >= len {
-                    break i;
-                }
-                let y = BlockNo(stacks[base + i]);
-                if y.0 == x.0 {
-                    break i;
-                }
-                let shared = u32::trailing_zeros(x.0 ^ y.0);
-                bump(depths, k * Order::ROWS_MOST, rows, shared as usize);
-                i += 1;
-            };
+            let at = k * Order::ROWS_MOST;
+            let stack = &stacks[base..base + *used as usize];
+            let place = walk(stack, first.wider(k as u32), &mut depths[at..at + rows]);
             places[k] = place as u32;
-            k += 1;
         }
     }
+}
+
+// Walks a stack to block x, or to its end: gives where the walk left, and counts the depths of x there.
+fn walk(stack: &[u32], x: BlockNo, depths: &mut [u32]) -> usize
+    requires small { length stack.now < count_most }
+    requires few { length depths.old ≤ rows_most }
+    requires zero { (s : ℕ) → s < length depths.old → get_or depths.old s 0 ≡ 0 }
+    ensures { Walked stack.now x.0 result depths.new }
+{
+    for (i, entry) in stack.iter().enumerate() {
+        let y = BlockNo(*entry);
+        if y == x {
+            return i;
+        }
+        let shared = (x.0 ^ y.0).trailing_zeros();
+        bump(depths, shared);
+    }
+    stack.len()
 }

@@ -1,18 +1,7 @@
--- `look` meets its contract. Outer loop: the sizes passed are looked at (`Sizes`). Inner loop: the entries passed are counted (`Walking`); each of
--- its two breaks gives `Left`. Assumes nothing.
-use Prim.Native.Nat.{◌-◌}
+-- `look` meets its contract: the sizes passed are looked at (`Sizes`). Assumes nothing.
 use Rattle.taking.specs.Parts.{wider_by}
-use Rattle.taking.proofs.LookLaws.{Sizes, Walking}
+use Rattle.taking.proofs.LookLaws.{Sizes}
 use Rattle.taking.proofs.Opened.look.Given as goal
-
-abbrev pub invariant-loop-i : goal.invariant-loop-i
-invariant-loop-i l = Walking l.self l.stacks (wider_by l.first.0) l.k l.i l.depths
-
-abbrev pub decreases-loop-i : goal.decreases-loop-i
-decreases-loop-i l = l.len - l.i
 
 abbrev pub invariant-loop-k : goal.invariant-loop-k
 invariant-loop-k l = Sizes l.self l.stacks (wider_by l.first.0) l.k l.places l.depths
-
-abbrev pub decreases-loop-k : goal.decreases-loop-k
-decreases-loop-k l = l.sizes - l.k
