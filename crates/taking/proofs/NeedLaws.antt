@@ -19,7 +19,7 @@ use Rattle.taking.specs.Taking.{is_foreign, some_size, take_answer}
 use Rattle.taking.specs.World.{World}
 use Rattle.sizes.specs.Size.{is_full, is_over}
 use Rattle.cache.specs.Cache.{ref, flush}
-use Rattle.taking.specs.Parts.{early_answer, unflushable, Fit, Grid, Rows, Tabled}
+use Rattle.taking.specs.Parts.{unfit_answer, early_answer, unflushable, Fit, Grid, Rows, Tabled}
 use Rattle.taking.specs.declared.Opened.{Opened}
 
 -- the rows of group k, in a table that has room for all
@@ -69,6 +69,14 @@ fit_past v n m first second third fourth =
       ceiling = ltb-false v.order.refs v.taken own.1;
     }
 
+pub fit_unfit : (v : Opened) (n m : ℕ) → unfit_answer v n m ≡ 0 → Fit v n m
+fit_unfit v n m e =
+    let first = none_first (not (within v.order)) 0 _ e in
+    let second = none_first (ltb n (stack_need v.order)) 1 _ first.1 in
+    let third = none_first (ltb m (count_need v.order)) 2 _ second.1 in
+    let fourth = none_first (is_foreign v) 3 0 third.1 in
+    fit_past v n m (not-false (within v.order) first.0) second.0 third.0 fourth.0
+
 -- and what 5 leaves
 pub fit_of : (v : Opened) (n m : ℕ) → early_answer v n m ≡ 0 → Fit v n m × (v.taken < v.order.refs)
 fit_of v n m e =
@@ -95,6 +103,10 @@ own_of v n m f =
     or_both (any_to (sizes v.order) (too_long v)) (ltb v.order.refs v.taken)
     (any_none_of (sizes v.order) (too_long v) (λ k h. le-ltb v.order.room (used_of v k) (f.used k h)))
     (le-ltb v.order.refs v.taken f.ceiling)
+
+pub early_fit : (v : Opened) (n m : ℕ) → Fit v n m → early_answer v n m ≡ cond (eqb v.taken v.order.refs) 5 0
+early_fit v n m f =
+    simp (all_yes (limits v.order) f.numbers, le-ltb n (stack_need v.order) f.long, le-ltb m (count_need v.order) f.wide, own_of v n m f)
 
 -- THE ANSWER where the state fits: 5, 6, 7 are left for a reference, and nothing for a flush
 pub answer_by_sizes : (w : World) (a : ℕ) → Fit w.state (length w.stacks) (length w.counts)

@@ -15,7 +15,17 @@ use Rattle.taking.specs.declared.Opened.{Opened}
 
 -- ---- the refusals
 
--- refusals 1 to 5 of a taking, from the state and the tables' lengths n and m
+-- refusals 1 to 4, from the state and the tables' lengths n and m
+abbrev pub unfit_answer : Opened → ℕ → ℕ → ℕ
+unfit_answer v n m =
+    first_of
+    ((not (within v.order), outside_limits)
+    ∷ (ltb n (stack_need v.order), short_stacks)
+    ∷ (ltb m (count_need v.order), short_counts)
+    ∷ (is_foreign v, foreign_state)
+    ∷ [])
+
+-- so refusals 1 to 5 of a taking
 abbrev pub early_answer : Opened → ℕ → ℕ → ℕ
 early_answer v n m =
     first_of

@@ -18,11 +18,10 @@ impl Opened {
         let k = (cache.b.0 - self.order.bmin.0) as usize;
         let at = (k * self.order.rows() + cache.s as usize) * self.order.ways as usize;
         let hits = summed(counts, at, cache.w as usize);
-        let taken = u64::from(self.taken);
-        if taken < hits {
-            return Err(Refusal::CountOver);
-        }
-        Ok((taken - hits) as u32)
+        let misses = u64::from(self.taken)
+            .checked_sub(hits)
+            .ok_or(Refusal::CountOver)?;
+        Ok(misses as u32)
     }
 
     // The two ratios of a cache, handed back together.

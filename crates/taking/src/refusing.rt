@@ -3,7 +3,7 @@ ghost use Rattle.std.specs.Prelude.{◌≡◌, ◌≤◌};
 ghost use Rattle.units.specs.Refusals.{answer_of};
 ghost use Rattle.order.specs.Limits.{sizes, sizes_most};
 ghost use Rattle.taking.specs.Taking.{is_foreign};
-ghost use Rattle.taking.specs.Parts.{early_answer, unflushable, unaskable};
+ghost use Rattle.taking.specs.Parts.{unfit_answer, early_answer, unflushable, unaskable};
 
 use crate::Opened;
 use order::Cache;
@@ -13,6 +13,35 @@ impl Opened {
     // Refusals 1 to 5 of a taking, with tables of n and m entries.
     pub(crate) fn early(&self, n: usize, m: usize) -> Result<(), Refusal>
         ensures { answer_of result ≡ early_answer self.now n m }
+    {
+        self.unfit(n, m)?;
+        if self.taken == self.order.refs {
+            return Err(Refusal::RefsReached);
+        }
+        Ok(())
+    }
+
+    // Refusals 1, 2 and 4 of a flush, with a stack table of `len` entries. It looks at no count, so of these there are enough.
+    pub(crate) fn unflushed(&self, len: usize) -> Result<(), Refusal>
+        ensures { answer_of result ≡ unflushable self.now len }
+    {
+        self.unfit(len, self.order.count_need())
+    }
+
+    // Refusals 1, 3, 4 and 8 of a question, with a count table of m entries. It looks at no stack, so there is room enough.
+    pub(crate) fn unasked(&self, m: usize, cache: Cache) -> Result<(), Refusal>
+        ensures { answer_of result ≡ unaskable self.now m cache.b.0 cache.s cache.w }
+    {
+        self.unfit(self.order.stack_need(), m)?;
+        if !self.has(cache) {
+            return Err(Refusal::NotInOrder);
+        }
+        Ok(())
+    }
+
+    // Refusals 1 to 4, with tables of n and m entries.
+    fn unfit(&self, n: usize, m: usize) -> Result<(), Refusal>
+        ensures { answer_of result ≡ unfit_answer self.now n m }
     {
         if !self.order.is_within() {
             return Err(Refusal::OutsideLimits);
@@ -25,44 +54,6 @@ impl Opened {
         }
         if self.is_foreign() {
             return Err(Refusal::ForeignState);
-        }
-        if self.taken == self.order.refs {
-            return Err(Refusal::RefsReached);
-        }
-        Ok(())
-    }
-
-    // Refusals 1, 2 and 4 of a flush, with a stack table of `len` entries.
-    pub(crate) fn unflushed(&self, len: usize) -> Result<(), Refusal>
-        ensures { answer_of result ≡ unflushable self.now len }
-    {
-        if !self.order.is_within() {
-            return Err(Refusal::OutsideLimits);
-        }
-        if len < self.order.stack_need() {
-            return Err(Refusal::ShortStacks);
-        }
-        if self.is_foreign() {
-            return Err(Refusal::ForeignState);
-        }
-        Ok(())
-    }
-
-    // Refusals 1, 3, 4 and 8 of a question, with a count table of m entries.
-    pub(crate) fn unasked(&self, m: usize, cache: Cache) -> Result<(), Refusal>
-        ensures { answer_of result ≡ unaskable self.now m cache.b.0 cache.s cache.w }
-    {
-        if !self.order.is_within() {
-            return Err(Refusal::OutsideLimits);
-        }
-        if m < self.order.count_need() {
-            return Err(Refusal::ShortCounts);
-        }
-        if self.is_foreign() {
-            return Err(Refusal::ForeignState);
-        }
-        if !self.has(cache) {
-            return Err(Refusal::NotInOrder);
         }
         Ok(())
     }

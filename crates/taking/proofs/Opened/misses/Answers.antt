@@ -3,13 +3,22 @@ use Prim.Native.Nat.{ℕ, ◌+◌, ◌-◌, ◌*◌, ◌≤◌, ◌<◌}
 use mathlib.Core.Path.{◌≡◌, sym, ap, ◌∙◌}
 use native.Mathlib.Omega.{arith}
 use lib.ListN.{length, get_or}
+use Rattle.std.specs.Prelude.{Option, None, Result, Err}
+use Rattle.std.specs.Option.{ok_or}
+use Rattle.std.proofs.lemmas.Result.{err_from_is_err_and}
 use Rattle.lists.specs.Sums.{sum_to}
 use Rattle.order.proofs.LimitLaws.{needs_small}
+use Rattle.units.specs.declared.refusal.Refusal.{Refusal}
+use Rattle.units.specs.declared.refusal.Refusal.TheVariants.{CountOver}
 use Rattle.taking.specs.Parts.{unaskable}
 use Rattle.taking.specs.Questions.{hits_of}
 use Rattle.taking.proofs.QuestionLaws.{Asked, asked_of, misses_over_lem, misses_given, hits_at_places, places_fit}
 use Rattle.taking.proofs.Opened.misses.Goals as goal
 use Rattle.taking.proofs.Opened.misses.Goals.{After-rows, After-summed-hits}
+
+-- the refusal that stands for nothing
+refused_as : (r : Option ℕ) (e d : Refusal) → r ≡ None → ◌≡◌ {A = Result ℕ Refusal} (Err e) (ok_or r d) → e ≡ d
+refused_as r e d none h = cc
 
 -- what refusals 1, 3, 4 and 8 leave, before the counts are summed and after
 asked : (c : After-rows) → let a = c.args in Asked a.self.now (length a.counts.now) a.cache.b.0 a.cache.s a.cache.w
@@ -59,14 +68,20 @@ summed-hits-requires c =
     let at = (goal.at.summed-hits-requires c).After-rows in
     ((inside at).1, omega (arith, (asked at).there, (asked at).numbers))
 
-pub returns-then-taken-hits : goal.returns-then-taken-hits
-returns-then-taken-hits c =
+pub returns-in_err-misses : goal.returns-in_err-misses
+returns-in_err-misses c =
     let a = c.args in
-    let at = (goal.at.returns-then-taken-hits c).After-summed-hits in
-    misses_over_lem a.self.now a.counts.now a.cache.b.0 a.cache.s a.cache.w (passed at) (omega (arith, hits at))
+    let at = (goal.at.returns-in_err-misses c).After-summed-hits in
+    let over : a.self.now.taken < c.summed-hits.result = grind (arith, c.in_err-misses.ensures.ok_part, c.checked_sub.ensures) in
+    let p = err_from_is_err_and c.from_residual-in_err-misses.result c.from_residual-in_err-misses.ensures.1 in
+    let e : c.in_err-misses.field-0.0 ≡ CountOver = refused_as _ _ _ c.in_err-misses.ensures.ok_part c.in_err-misses.ensures.value in
+    rw (p.1, p.2, e) (misses_over_lem a.self.now a.counts.now a.cache.b.0 a.cache.s a.cache.w (passed at) (omega (arith, hits at)))
 
 pub returns : goal.returns
 returns c =
     let a = c.args in
     let at = (goal.at.returns c).After-summed-hits in
-    rw (c.from-taken.ensures, hits at) (misses_given a.self.now a.counts.now a.cache.b.0 a.cache.s a.cache.w (passed at) (omega (arith, hits at)))
+    let given : (c.summed-hits.result ≤ c.from.result) × (c.in_ok-misses.misses ≡ c.from.result - c.summed-hits.result)
+    = grind (arith, c.in_ok-misses.ensures.ok_part, c.checked_sub.ensures) in
+    rw (given.1, c.from.ensures, hits at)
+    (misses_given a.self.now a.counts.now a.cache.b.0 a.cache.s a.cache.w (passed at) (omega (arith, hits at, given.0)))
