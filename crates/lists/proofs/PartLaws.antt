@@ -9,7 +9,7 @@ use native.Mathlib.Omega.{arith}
 use lib.Dec.{eqb, ltb}
 use lib.ListN.{length, take, drop, get_or, set, replicate, length-append, length-drop, length-set, length-replicate}
 use lib.ListN.{take-append-drop, drop_of_length-le}
-use lib.Seq.{drop-cons, drop-drop, length-take-le, get_or-take, get_or-drop, get_or-set_same, get_or-set_other}
+use lib.Seq.{take_all, drop-cons, drop-drop, length-take-le, get_or-take, get_or-drop, get_or-set_same, get_or-set_other}
 use borrow.Author.Tests.{eqb-true, eqb-false, ltb-true, ltb-false}
 use Rattle.lists.specs.Tables.{part, padded, write_at, written_rows, set_lengths}
 use Rattle.lists.proofs.Cases.{cases}
@@ -31,8 +31,17 @@ part_at base n l i h = get_or-take n (drop base l) i 0 h ∙ get_or-drop base l 
 pub length_part : (base n : ℕ) (l : List ℕ) → base + n ≤ length l → length (part base n l) ≡ n
 length_part base n l h = length-take-le n (drop base l) (rw (length-drop base l) (omega arith))
 
+-- all from a place on
+pub part_rest : (base : ℕ) (l : List ℕ) → take (length l - base) (drop base l) ≡ drop base l
+part_rest base l = take_all (length l - base) (drop base l) (rw (length-drop base l) (omega arith))
+
+pub put_rest : (base : ℕ) (l p : List ℕ) → take base l ++ (p ++ drop (length l - base) (drop base l)) ≡ take base l ++ p
+put_rest base l p =
+    ap (λ (q : List ℕ). take base l ++ (p ++ q)) (drop_of_length-le (drop base l) {i = length l - base} (rw (length-drop base l) (omega arith)))
+    ∙ ap (λ (q : List ℕ). take base l ++ q) (append-nil p)
+
 -- a part written over itself, also one that the table cuts short
-own_front : (n : ℕ) (l : List ℕ) → take n l ++ drop (length (take n l)) l ≡ l
+pub own_front : (n : ℕ) (l : List ℕ) → take n l ++ drop (length (take n l)) l ≡ l
 own_front zero l = refl
 own_front (suc n) [] = refl
 own_front (suc n) (x ∷ l) = ap (λ (t : List ℕ). x ∷ t) (own_front n l)

@@ -61,7 +61,7 @@ write_past base p l i h f =
 
 -- ---- one entry of what is written
 
-set_append_add : (xs ys : List ℕ) (i v : ℕ) → set (xs ++ ys) (length xs + i) v ≡ xs ++ set ys i v
+pub set_append_add : (xs ys : List ℕ) (i v : ℕ) → set (xs ++ ys) (length xs + i) v ≡ xs ++ set ys i v
 set_append_add [] ys i v = rw (zero-add i)
 set_append_add (x ∷ xs) ys i v = rw (suc-add (length xs) i) (ap (λ (t : List ℕ). x ∷ t) (set_append_add xs ys i v))
 

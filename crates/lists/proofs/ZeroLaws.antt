@@ -47,23 +47,6 @@ part_zeroed base n m l h f =
     ext_get_or 0 (part base n (zeroed m l)) (replicate n 0) (long ∙ sym (length-replicate {A = ℕ} n 0))
     (λ i g. part_at base n (zeroed m l) i (omega arith) ∙ get_d_zeroed m (base + i) l (omega arith) ∙ sym (zeros_at n i))
 
--- all of them
-pub zeroed_all : (n : ℕ) (l : List ℕ) → length l ≡ n → zeroed n l ≡ replicate n 0
-zeroed_all zero [] h = refl
-zeroed_all zero (x ∷ l) h = absurd (omega arith)
-zeroed_all (suc n) [] h = absurd (omega arith)
-zeroed_all (suc n) (x ∷ l) h = ap (λ (t : List ℕ). 0 ∷ t) (zeroed_all n l (omega arith))
-
--- a part that is zeroed and put back
-pub put_zeros : (base n : ℕ) (l : List ℕ) → base + n ≤ length l
-    → take base l ++ (zeroed n (take (base + n - base) (drop base l)) ++ drop (base + n - base) (drop base l)) ≡ write_at base (replicate n 0) l
-put_zeros base n l h =
-    rw cut (ap (λ (t : List ℕ). take base l ++ (t ++ drop n (drop base l))) (zeroed_all n (part base n l) (length_part base n l h))
-    ∙ put_writes base n (replicate n 0) l (length-replicate {A = ℕ} n 0))
-  where
-    cut : base + n - base ≡ n
-    cut = omega arith
-
 -- zeros in place of the first entries, as many of them as the list has
 pub zeros_before : (n end : ℕ) (l : List ℕ) → end ≡ min n (length l) → replicate (length (take end l)) 0 ++ drop end l ≡ zeroed n l
 zeros_before zero zero l h = refl

@@ -1,4 +1,3 @@
-pub mod CellLaws
 pub mod FlushLaws
 pub mod LookLaws
 pub mod MoveLaws
@@ -9,5 +8,7 @@ pub mod QuestionLaws
 pub mod RatioExamples
 pub mod RatioLaws
 pub mod RoundingLaws
+pub mod RowLaws
 pub mod TakenLaws
 pub mod TopLaws
+pub mod UsedLaws

@@ -1,29 +1,35 @@
 -- All stacks, where each walk left below room: each stays within room with its block on top, and a loop finds each as it was.
 -- Not here: a block that goes to the front of one stack (lists/FrontLaws). Assumes nothing.
-use Prim.Native.Nat.{ℕ, ◌*◌, ◌≤◌, ◌<◌}
+use Prim.Native.Nat.{ℕ, ◌+◌, ◌*◌, ◌≤◌, ◌<◌, max}
 use mathlib.Core.Path.{◌≡◌, ap, ◌∙◌}
-use mathlib.Core.List.{List, ◌∷◌}
+use mathlib.Core.List.{List, ◌++◌}
 use native.Mathlib.Omega.{arith}
-use lib.ListN.{length, take, drop, get_or, length-take}
-use Rattle.lists.specs.Members.{remove}
-use Rattle.lists.specs.Tables.{part, written_rows}
-use Rattle.lists.proofs.MemberLaws.{length_front_le}
-use Rattle.lists.proofs.PartLaws.{drop_rows}
-use Rattle.taking.specs.Parts.{topped_at, topped_by, Roomed}
+use lib.ListN.{length, take, drop, get_or, length-drop}
+use Rattle.lists.specs.Tables.{front, write_at, written_rows}
+use Rattle.lists.proofs.FrontLaws.{front_is, front_length}
+use Rattle.lists.proofs.PartLaws.{row_in, drop_rows}
+use Rattle.order.specs.Limits.{sizes}
+use Rattle.taking.specs.Parts.{Roomed}
+use Rattle.taking.specs.Places.{used_of}
+use Rattle.taking.specs.Plain.{topped}
+use Rattle.taking.specs.declared.Opened.{Opened}
 
-module _ (n room : ℕ) (x : ℕ → ℕ) (st us ps : List ℕ) (left : Roomed n room x st us ps) where
-  pub roomy_of : (k : ℕ) → k < n → length (topped_by room x st us k) ≤ room
-  roomy_of k h =
-      let q = part (k * room) (get_or us k 0) st in
-      length_front_le (x k) room q (rw (← left.place k h) (left.below k h))
-      (omega (arith, length-take (get_or us k 0) (drop (k * room) st), left.used k h))
+module _ (v : Opened) (x : ℕ → ℕ) (st ps : List ℕ) (left : Roomed v x st ps) where
+  -- the length of a stack with its block on top, from where the walk left
+  pub topped_length : (k : ℕ) → k < sizes v.order → max (used_of v k) (get_or ps k 0 + 1) ≡ length (topped v st x k)
+  topped_length k h =
+      ap (λ (p : ℕ). max (used_of v k) (p + 1)) (left.place k h)
+      ∙ front_length (x k) (used_of v k) (drop (k * v.order.room) st)
+      (rw length-drop (omega (arith, row_in k (sizes v.order) v.order.room h, left.long, left.used k h)))
 
-  -- what the loop finds at size k, after the stacks before it have changed: the stack as it was
-  module _ (k : ℕ) (h : k < n) (t : List ℕ) (e : t ≡ written_rows room (topped_by room x st us) k st) (u : ℕ) (eu : u ≡ get_or us k 0) where
-    pub part_same : part (k * room) u t ≡ part (k * room) (get_or us k 0) st
-    part_same =
-        ap (λ (m : ℕ). part (k * room) m t) eu
-        ∙ ap (take (get_or us k 0)) (ap (drop (k * room)) e ∙ drop_rows room (topped_by room x st us) st n left.long roomy_of k (omega arith))
+  roomy_of : (k : ℕ) → k < sizes v.order → length (topped v st x k) ≤ v.order.room
+  roomy_of k h = rw (← topped_length k h) (omega (arith, left.used k h, left.below k h))
 
-    pub topped_same : topped_at (k * room) u (x k) t ≡ topped_by room x st us k
-    topped_same = ap (λ (q : List ℕ). x k ∷ remove (x k) q) part_same
+  -- at size k, once the stacks before it have changed, to t: the block goes on top of the stack as it was
+  pub topped_there : (k : ℕ) → k < sizes v.order → (t : List ℕ) → t ≡ written_rows v.order.room (topped v st x) k st
+      → take (k * v.order.room) t ++ front (x k) (get_or ps k 0) (drop (k * v.order.room) t) ≡ write_at (k * v.order.room) (topped v st x k) t
+  unfolding write_at
+  topped_there k h t e =
+      let same = ap (drop (k * v.order.room)) e ∙ drop_rows v.order.room (topped v st x) st (sizes v.order) left.long roomy_of k (omega arith) in
+      ap (λ (q : List ℕ). take (k * v.order.room) t ++ q)
+      (rw (left.place k h, same) (front_is (x k) (used_of v k) (drop (k * v.order.room) st)))

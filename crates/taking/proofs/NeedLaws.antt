@@ -3,54 +3,26 @@
 use Prim.Native.Nat.{ℕ, ◌+◌, ◌*◌, ◌≤◌, ◌<◌}
 use mathlib.Core.Path.{◌≡◌}
 use mathlib.Core.Bool.{Bool, true, false, cond, not}
-use mathlib.Core.List.{List}
 use lib.ListN.{length}
-use native.Mathlib.Nat.{mul-le-mul}
 use native.Mathlib.Omega.{arith}
 use lib.Dec.{eqb, ltb}
 use borrow.Author.Tests.{not-false, ltb-false, le-ltb, eqb-false}
 use Rattle.lists.specs.Tests.{any_to}
 use Rattle.lists.proofs.BoolLaws.{or_none, or_both}
-use Rattle.lists.proofs.PartLaws.{row_in, rows_le}
+use Rattle.lists.proofs.PartLaws.{row_in}
 use Rattle.lists.proofs.TestLaws.{all_facts, all_yes, none_first, any_not, any_none_of}
-use Rattle.order.specs.Limits.{limits, within, sizes, rows, stack_need, count_need}
+use Rattle.order.specs.Limits.{limits, within, sizes, stack_need, count_need}
 use Rattle.taking.specs.Places.{used_of}
 use Rattle.taking.specs.Taking.{is_foreign, some_size, take_answer}
 use Rattle.taking.specs.World.{World}
 use Rattle.sizes.specs.Size.{is_full, is_over}
 use Rattle.cache.specs.Cache.{ref, flush}
-use Rattle.taking.specs.Parts.{unfit_answer, early_answer, unflushable, Fit, Grid, Rows, Tabled}
+use Rattle.taking.specs.Parts.{unfit_answer, early_answer, unflushable, Fit}
 use Rattle.taking.specs.declared.Opened.{Opened}
-
--- the rows of group k, in a table that has room for all
-module _ (n r w m k : ℕ) (g : Grid n r w m) (h : k < n) where
-  pub rows_small : k * r + r ≤ 120
-  rows_small = omega (arith, row_in k n r h, mul-le-mul {n₁ = n} {m₁ = r} {n₂ = 8} {m₂ = 15} g.sizes g.rows)
-
-  pub rows_fit : (k * r + r) * w ≤ m
-  rows_fit = omega (arith, rows_le (k * r + r) (n * r) w (row_in k n r h), g.inside)
-
--- and so its rows, with their depths
-pub rows_of : (n r w m k : ℕ) (us ps ds : List ℕ) → Tabled n r w m us ps ds → k < n → Rows (k * r) r w m (k * 15) ds
-rows_of n r w m k us ps ds t h = record {
-  inside = rows_fit n r w m k t.grid h;
-  some = t.grid.some;
-  depths = omega (arith, t.grid, t.depths);
-  falling = t.falling k h;
-}
 
 -- the stack of size k, in the table of an order that fits
 pub stack_fits : (v : Opened) (n m k : ℕ) → Fit v n m → k < sizes v.order → k * v.order.room + v.order.room ≤ n
 stack_fits v n m k f h = omega (arith, row_in k (sizes v.order) v.order.room h, f.long)
-
--- the counts of an order that fits
-pub grid_of_lem : (v : Opened) (n m : ℕ) → Fit v n m → Grid (sizes v.order) (rows v.order) v.order.ways m
-grid_of_lem v n m f = record {
-  sizes = omega (arith, f.numbers);
-  rows = omega (arith, f.numbers);
-  some = omega (arith, f.numbers);
-  inside = f.wide;
-}
 
 -- the stack of size k is above room
 abbrev too_long : Opened → ℕ → Bool

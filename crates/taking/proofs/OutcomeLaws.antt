@@ -1,17 +1,16 @@
 -- From what the walks found to the outcome of a taking: the code's tests are the page's, and the answer decides the rest.
 -- Assumes nothing.
-use Prim.Native.Nat.{ℕ, ◌+◌, ◌*◌, ◌≤◌, ◌<◌}
+use Prim.Native.Nat.{ℕ, ◌+◌, ◌*◌, ◌<◌}
 use mathlib.Core.Path.{◌≡◌, refl, sym, ap, ap₂, fun_ext, ◌∙◌}
 use mathlib.Core.Bool.{Bool, false, cond, not, ◌&&◌}
 use mathlib.Core.List.{List, [], ◌∷◌}
 use native.Mathlib.Omega.{arith}
 use lib.Dec.{eqb, ltb, leb}
 use lib.ListN.{length, get_or}
-use borrow.Author.Tests.{ne_eqb, ltb-true, lt-ltb, leb-false, lt-leb}
+use borrow.Author.Tests.{ne_eqb, ltb-true, leb-false, lt-leb}
 use Rattle.lists.specs.Members.{above}
-use Rattle.lists.specs.Tables.{over_row, over_groups, raised_groups}
+use Rattle.lists.specs.Tables.{over_row}
 use Rattle.lists.specs.Tests.{any_to}
-use Rattle.lists.proofs.BoolLaws.{and_false_of}
 use Rattle.lists.proofs.Cases.{cases}
 use Rattle.lists.proofs.MemberLaws.{mem_above, absent_above}
 use Rattle.lists.proofs.RaiseLaws.{groups_same}
@@ -27,7 +26,7 @@ use Rattle.taking.specs.World.{world}
 use Rattle.sizes.specs.Size.{is_full, is_over}
 use Rattle.taking.proofs.NeedLaws.{answer_by_sizes}
 use Rattle.taking.proofs.TakenLaws.{full_each, over_each, taken_is}
-use Rattle.taking.specs.Parts.{early_answer, Fit, wider_by, Looked, found_by, deep_by, Falling, count_most, AllRaisable, Roomed}
+use Rattle.taking.specs.Parts.{early_answer, Fit, wider_by, Looked, found_by, deep_by, over_by, raised_by, full_by, Tabled, Roomed}
 use Rattle.taking.specs.declared.Opened.{Opened}
 use Rattle.taking.proofs.LookLaws.{length_stack}
 
@@ -49,11 +48,10 @@ module _ (v : Opened) (st : List ℕ) (x : ℕ → ℕ) (m : ℕ) (ps ds : List 
       let left : get_or ps k 0 ≡ used_of v k = seen.place k h ∙ up ∙ length_stack v st m k f h in
       simp e (ap (leb v.order.room) left))
 
-  pub full_is : any_to (sizes v.order) (λ (k : ℕ). leb v.order.room (get_or ps k 0)) ≡ any_to (sizes v.order) (full_at v st x)
+  pub full_is : full_by v ps ≡ any_to (sizes v.order) (full_at v st x)
   full_is = any_same (sizes v.order) (λ (k : ℕ). leb v.order.room (get_or ps k 0)) (full_at v st x) same_full
 
-  pub over_is : (ct : List ℕ)
-      → over_groups v.order.ways (rows v.order) (found_by v.used ps) (deep_by ds) v.taken (sizes v.order) ct ≡ over_all v st ct x
+  pub over_is : (ct : List ℕ) → over_by v ps ds ct ≡ over_all v st ct x
   over_is ct =
       any_same (sizes v.order)
       (λ (k : ℕ). found_by v.used ps k && any_to (rows v.order) (over_row v.order.ways (k * rows v.order) (deep_by ds k) v.taken ct))
@@ -66,48 +64,40 @@ module _ (v : Opened) (st : List ℕ) (x : ℕ → ℕ) (m : ℕ) (ps ds : List 
       (λ s g. ap (λ (n : ℕ). ltb n v.order.ways && leb v.taken (get_or ct ((k * rows v.order + s) * v.order.ways + n) 0))
       (seen.deep k s h g))))
 
-  pub counts_is : (ct : List ℕ)
-      → raised_groups v.order.ways (rows v.order) (found_by v.used ps) (deep_by ds) (sizes v.order) ct ≡ counts_done v st ct x
+  pub counts_is : (ct : List ℕ) → raised_by v ps ds ct ≡ counts_done v st ct x
   counts_is ct =
       groups_same v.order.ways (rows v.order) (found_by v.used ps) (found_at v st x) (deep_by ds) (depth_at v st x)
       (sizes v.order) ct same_found seen.deep
 
-  pub room_of : length v.used ≡ 8 → length ps ≡ 8 → any_to (sizes v.order) (λ (k : ℕ). leb v.order.room (get_or ps k 0)) ≡ false
-      → Roomed (sizes v.order) v.order.room x st v.used ps
-  room_of eight places e = record {
-    sizes = omega (arith, f.numbers);
-    small = omega (arith, f.numbers);
-    long = f.long;
-    lengths = eight;
+  -- so the counting has what it asks for: two blocks that share no set share none at more sets
+  pub tabled : length ps ≡ 8 → length ds ≡ 120 → Tabled v m ps ds
+  tabled places depths = record {
+    numbers = f.numbers;
+    wide = f.wide;
+    ceiling = f.ceiling;
     places = places;
-    used = f.used;
-    below =
-        λ k h. leb-false v.order.room (get_or ps k 0) (any_not (sizes v.order) (λ (k : ℕ). leb v.order.room (get_or ps k 0)) e k h);
-    place = seen.place;
+    depths = depths;
+    falling = λ k h s t le g e.
+        let shallow = depth_falls s t le (x k) (stack_at v st k) in
+        let here = seen.deep k s h (omega arith) in
+        let there = seen.deep k t h g in
+        omega arith;
   }
 
-  pub falling_of : (k : ℕ) → k < sizes v.order → Falling (k * 15) (rows v.order) ds
-  falling_of k h s t le g e =
-      let shallow = depth_falls s t le (x k) (stack_at v st k) in
-      let here = seen.deep k s h (omega arith) in
-      let there = seen.deep k t h g in
-      omega arith
+  -- and, where no walk left at room or past it, so has the moving
+  pub roomed : length ps ≡ 8 → full_by v ps ≡ false → Roomed v x st ps
+  roomed places none = record {
+    numbers = f.numbers;
+    long = f.long;
+    places = places;
+    used = f.used;
+    below = λ k h. leb-false v.order.room (get_or ps k 0) (any_not (sizes v.order) (λ (k : ℕ). leb v.order.room (get_or ps k 0)) none k h);
+    place = seen.place;
+  }
 
 -- the blocks of an address, made from that of the smallest size
 pub same_blocks : (v : Opened) (a first : ℕ) → first ≡ block_of v.order.bmin.0 a → wider_by first ≡ block_at v a
 same_blocks v a first e = fun_ext (λ k. ap (block_of k) e ∙ sym (block_wider v.order.bmin.0 k a))
-
--- where no count is over, each can go up by one
-pub raisable_of : (n r w taken : ℕ) (ct : List ℕ) (f : ℕ → Bool) (d : ℕ → ℕ → ℕ) → taken ≤ count_most → over_groups w r f d taken n ct ≡ false
-    → AllRaisable n r w f d ct
-raisable_of n r w taken ct f d small none k h e s g below =
-    let group =
-    and_false_of (f k) (any_to r (over_row w (k * r) (d k) taken ct))
-    (any_not n (λ (k : ℕ). f k && any_to r (over_row w (k * r) (d k) taken ct)) none k h) e in
-    let row = any_not r (over_row w (k * r) (d k) taken ct) group s g in
-    let under = leb-false taken (get_or ct ((k * r + s) * w + d k s) 0)
-    (and_false_of (ltb (d k s) w) (leb taken (get_or ct ((k * r + s) * w + d k s) 0)) row (lt-ltb (d k s) w below)) in
-    omega arith
 
 -- ---- the answer
 

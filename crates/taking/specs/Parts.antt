@@ -1,14 +1,15 @@
 -- What the private functions of this crate promise one another. A block is told by size: x k is the block at size k. No public contract cites
 -- this page. Assumes nothing.
-use Rattle.std.specs.Prelude.{ℕ, ◌+◌, ◌*◌, ◌≤◌, ◌<◌, ◌≡◌, Bool, true, not, ◌||◌, List, [], ◌∷◌, eqb, ltb, length, get_or, replicate}
-use Rattle.lists.specs.Members.{remove, above}
-use Rattle.lists.specs.Tables.{part, write_at, written_rows, set_lengths}
+use Rattle.std.specs.Prelude.{ℕ, ◌+◌, ◌*◌, ◌≤◌, ◌<◌, ◌≡◌, Bool, not, ◌||◌, List, [], ◌∷◌, eqb, ltb, leb, length, get_or, replicate}
+use Rattle.lists.specs.Members.{above}
+use Rattle.lists.specs.Tables.{written_rows, set_lengths, over_groups, raised_groups}
 use Rattle.lists.specs.Tests.{first_of, any_to, All≤}
 use Rattle.cache.specs.Cache.{block_of}
 use Rattle.cache.specs.Stack.{depth}
 use Rattle.units.specs.Refusals.{outside_limits, short_stacks, short_counts, foreign_state, refs_reached, not_in_order}
 use Rattle.order.specs.Limits.{sizes_most, rows_most, limits, within, sizes, rows, stack_need, count_need}
 use Rattle.taking.specs.Places.{used_of, stack_at, depth_at}
+use Rattle.taking.specs.Plain.{topped, stacks_done}
 use Rattle.taking.specs.Questions.{has}
 use Rattle.taking.specs.Taking.{is_foreign}
 use Rattle.taking.specs.declared.Opened.{Opened}
@@ -99,11 +100,12 @@ pub record Looked (v : Opened) (st : List ℕ) (x : ℕ → ℕ) (ps ds : List �
 abbrev pub found_by : List ℕ → List ℕ → ℕ → Bool
 found_by us ps k = ltb (get_or ps k 0) (get_or us k 0)
 
-abbrev pub depth_from : ℕ → List ℕ → ℕ → ℕ
-depth_from at ds s = get_or ds (at + s) 0
-
 abbrev pub deep_by : List ℕ → ℕ → ℕ → ℕ
-deep_by ds k = depth_from (k * rows_most) ds
+deep_by ds k s = get_or ds (k * rows_most + s) 0
+
+-- the depths of one block size
+abbrev pub depth_in : List ℕ → ℕ → ℕ
+depth_in ds s = get_or ds s 0
 
 -- ---- the counts
 
@@ -111,90 +113,73 @@ deep_by ds k = depth_from (k * rows_most) ds
 abbrev pub count_most : ℕ
 count_most = 4294967295
 
--- from the first depth of 0 on, the n depths from `at` on are 0: two blocks that share no set at 2^s sets share none at more
-abbrev pub Falling : ℕ → ℕ → List ℕ → Type 0
-Falling at n ds = (s t : ℕ) → s ≤ t → t < n → get_or ds (at + s) 0 ≡ 0 → get_or ds (at + t) 0 ≡ 0
+-- from the first depth of 0 on, the n depths are 0: two blocks that share no set at 2^s sets share none at more
+abbrev pub Falling : ℕ → (ℕ → ℕ) → Type 0
+Falling n d = (s t : ℕ) → s ≤ t → t < n → d s ≡ 0 → d t ≡ 0
 
--- r rows of w counts from row `first` on are within m entries, and their depths, from `at` on, within the scratch
-pub record Rows (first r w m at : ℕ) (ds : List ℕ) : Type 0 where
-  pub inside : (first + r) * w ≤ m
+-- a row of w counts for each depth is within m entries
+pub record Rows (w m : ℕ) (ds : List ℕ) : Type 0 where
+  pub inside : length ds * w ≤ m
   pub some : 1 ≤ w
-  pub depths : at + r ≤ length ds
-  pub falling : Falling at r ds
+  pub falling : Falling (length ds) (depth_in ds)
 
--- n groups of r rows of w counts are within an order's limits and within m entries
-pub record Grid (n r w m : ℕ) : Type 0 where
-  pub sizes : n ≤ sizes_most
-  pub rows : r ≤ rows_most
-  pub some : 1 ≤ w
-  pub inside : n * r * w ≤ m
-
--- so for n block sizes, with the used lengths, and with the places and depths that the walks left
-pub record Tabled (n r w m : ℕ) (us ps ds : List ℕ) : Type 0 where
-  pub grid : Grid n r w m
-  pub used : length us ≡ sizes_most
+-- the m counts are enough for the order, the depths fall, and no more references are taken than the order has
+pub record Tabled (v : Opened) (m : ℕ) (ps ds : List ℕ) : Type 0 where
+  pub numbers : All≤ (limits v.order)
+  pub wide : count_need v.order ≤ m
+  pub ceiling : v.taken ≤ v.order.refs
   pub places : length ps ≡ sizes_most
   pub depths : length ds ≡ sizes_most * rows_most
-  pub falling : (k : ℕ) → k < n → Falling (k * rows_most) r ds
+  pub falling : (k : ℕ) → k < sizes v.order → Falling (rows v.order) (deep_by ds k)
 
--- no count to be raised is at the top of its range: in the rows from row `first` on; and in all groups where f holds
+-- what the walks found decides: a count to be raised is not below the references taken; and the counts after they are raised
+abbrev pub over_by : Opened → List ℕ → List ℕ → List ℕ → Bool
+over_by v ps ds ct = over_groups v.order.ways (rows v.order) (found_by v.used ps) (deep_by ds) v.taken (sizes v.order) ct
+
+abbrev pub raised_by : Opened → List ℕ → List ℕ → List ℕ → List ℕ
+raised_by v ps ds ct = raised_groups v.order.ways (rows v.order) (found_by v.used ps) (deep_by ds) (sizes v.order) ct
+
+-- no count to be raised in the r rows from row `first` on is at the top of its range
 abbrev pub Raisable : ℕ → ℕ → ℕ → (ℕ → ℕ) → List ℕ → Type 0
 Raisable first r w d ct = (s : ℕ) → s < r → d s < w → get_or ct ((first + s) * w + d s) 0 < count_most
 
-abbrev pub AllRaisable : ℕ → ℕ → ℕ → (ℕ → Bool) → (ℕ → ℕ → ℕ) → List ℕ → Type 0
-AllRaisable n r w f d ct = (k : ℕ) → k < n → f k ≡ true → Raisable (k * r) r w (d k) ct
-
 -- ---- the stacks
 
--- the stack of `used` entries from base on, with x on top
-abbrev pub topped_at : ℕ → ℕ → ℕ → List ℕ → List ℕ
-topped_at base used x st = x ∷ remove x (part base used st)
+-- the state, with each used length below size n that of `top` there
+abbrev pub with_lengths : Opened → (ℕ → List ℕ) → ℕ → Opened
+with_lengths v top n = record { order = v.order; taken = v.taken; used = set_lengths top n v.used }
 
--- a walk over that stack left at p, which is in the table
-pub record Stopped (base used p x : ℕ) (st : List ℕ) : Type 0 where
-  pub inside : base + used ≤ length st
-  pub place : p ≡ length (above x (part base used st))
-  pub room : base + p < length st
+-- at some block size the walk left at room or past it
+abbrev pub full_by : Opened → List ℕ → Bool
+full_by v ps = any_to (sizes v.order) (λ (k : ℕ). leb v.order.room (get_or ps k 0))
 
--- x is on top of it, and n is its length then
-pub record Moved (base used x : ℕ) (st st' : List ℕ) (n : ℕ) : Type 0 where
-  pub stacks : st' ≡ write_at base (topped_at base used x st) st
-  pub long : n ≡ length (topped_at base used x st)
-
--- at each of n block sizes the stack is within room, and the walk left below room
-pub record Roomed (n room : ℕ) (x : ℕ → ℕ) (st us ps : List ℕ) : Type 0 where
-  pub sizes : n ≤ sizes_most
-  pub small : room ≤ 1048576
-  pub long : n * room ≤ length st
-  pub lengths : length us ≡ sizes_most
+-- at each block size the stack is within room, and the walk left below room
+pub record Roomed (v : Opened) (x : ℕ → ℕ) (st ps : List ℕ) : Type 0 where
+  pub numbers : All≤ (limits v.order)
+  pub long : stack_need v.order ≤ length st
   pub places : length ps ≡ sizes_most
-  pub used : (k : ℕ) → k < n → get_or us k 0 ≤ room
-  pub below : (k : ℕ) → k < n → get_or ps k 0 < room
-  pub place : (k : ℕ) → k < n → get_or ps k 0 ≡ length (above (x k) (part (k * room) (get_or us k 0) st))
+  pub used : (k : ℕ) → k < sizes v.order → used_of v k ≤ v.order.room
+  pub below : (k : ℕ) → k < sizes v.order → get_or ps k 0 < v.order.room
+  pub place : (k : ℕ) → k < sizes v.order → get_or ps k 0 ≡ length (above (x k) (stack_at v st k))
 
--- the stack of size k, with its block on top
-abbrev pub topped_by : ℕ → (ℕ → ℕ) → List ℕ → List ℕ → ℕ → List ℕ
-topped_by room x st us k = topped_at (k * room) (get_or us k 0) (x k) st
-
--- so is every stack, and each used length is that of its stack
-pub record AllMoved (n room : ℕ) (x : ℕ → ℕ) (st us st' us' : List ℕ) : Type 0 where
-  pub stacks : st' ≡ written_rows room (topped_by room x st us) n st
-  pub used : us' ≡ set_lengths (topped_by room x st us) n us
+-- each block is on top of its stack, and each used length is that of its stack
+pub record Moved (v : Opened) (x : ℕ → ℕ) (st : List ℕ) (v' : Opened) (st' : List ℕ) : Type 0 where
+  pub state : v' ≡ with_lengths v (topped v st x) (sizes v.order)
+  pub stacks : st' ≡ stacks_done v st x
 
 -- ---- a flush
 
--- n stacks, each within room
-pub record Stacked (n room : ℕ) (st us : List ℕ) : Type 0 where
-  pub sizes : n ≤ sizes_most
-  pub long : n * room ≤ length st
-  pub lengths : length us ≡ sizes_most
-  pub used : (k : ℕ) → k < n → get_or us k 0 ≤ room
+-- each stack is within room, and all of them in the table
+pub record Stacked (v : Opened) (st : List ℕ) : Type 0 where
+  pub numbers : All≤ (limits v.order)
+  pub long : stack_need v.order ≤ length st
+  pub used : (k : ℕ) → k < sizes v.order → used_of v k ≤ v.order.room
 
 -- as many zeros as stack k has entries
 abbrev pub zeros_for : List ℕ → ℕ → List ℕ
 zeros_for us k = replicate (get_or us k 0) 0
 
 -- the entries of each stack are zero, and its used length is 0
-pub record Emptied (n room : ℕ) (st us st' us' : List ℕ) : Type 0 where
-  pub stacks : st' ≡ written_rows room (zeros_for us) n st
-  pub used : us' ≡ set_lengths (λ (k : ℕ). []) n us
+pub record Emptied (v : Opened) (st : List ℕ) (v' : Opened) (st' : List ℕ) : Type 0 where
+  pub state : v' ≡ with_lengths v (λ (k : ℕ). []) (sizes v.order)
+  pub stacks : st' ≡ written_rows v.order.room (zeros_for v.used) (sizes v.order) st

@@ -1,10 +1,11 @@
 // The counts: raising them, and what has to be seen before any is raised.
-ghost use Rattle.std.specs.Prelude.{◌≡◌, ℕ, ◌+◌, ◌*◌, ◌≤◌, ◌<◌, leb, length, get_or};
+ghost use Rattle.std.specs.Prelude.{◌≡◌, false, ℕ, ◌+◌, ◌*◌, ◌≤◌, ◌<◌, leb, length, get_or};
 ghost use Rattle.lists.specs.Sums.{sum_to};
-ghost use Rattle.lists.specs.Tables.{Bumped, over_row, over_groups, raised_rows, raised_groups};
+ghost use Rattle.lists.specs.Tables.{Bumped, over_row, raised_rows};
 ghost use Rattle.lists.specs.Tests.{any_to};
-ghost use Rattle.taking.specs.Parts.{count_most, Rows, Tabled, Raisable, AllRaisable, depth_from, found_by, deep_by};
+ghost use Rattle.taking.specs.Parts.{count_most, Rows, Tabled, Raisable, depth_in, over_by, raised_by};
 
+use crate::Opened;
 use order::Order;
 
 // One more at each of the depths up to `shared`.
@@ -18,125 +19,81 @@ pub(crate) fn bump(depths: &mut [u32], shared: u32)
     }
 }
 
-// Some count to be raised in the `rows` rows from row `first` on is not below `taken`. From the first
-// depth of 0 on all are 0, so the rest need not be read.
-fn size_over(
-    counts: &[u32],
-    first: usize,
-    ways: usize,
-    depths: &[u32],
-    at: usize,
-    rows: usize,
-    taken: u32,
-) -> bool
-    requires { Rows first rows ways (length counts.now) at depths.now }
-    ensures { result ≡ any_to rows (over_row ways first (depth_from at depths.now) taken counts.now) }
-{
-    let mut s = 0usize;
-    while s < rows {
-        let d = depths[at + s] as usize;
-        if d == 0 {
-            break;
-        }
-        if d < ways {
-            if counts[(first + s) * ways + d] >= taken {
+impl Opened {
+    // Some count to be raised is not below the references taken.
+    pub(crate) fn is_over(&self, counts: &[u32], places: &[u32], depths: &[u32]) -> bool
+        requires { Tabled self.now (length counts.now) places.now depths.now }
+        ensures { result ≡ over_by self.now places.now depths.now counts.now }
+    {
+        let rows = self.order.rows();
+        let ways = self.order.ways as usize;
+        for k in 0..self.order.sizes() {
+            let at = k * Order::ROWS_MOST;
+            if places[k] < self.used[k]
+                && size_over(
+                    &counts[k * rows * ways..],
+                    ways,
+                    &depths[at..at + rows],
+                    self.taken,
+                )
+            {
                 return true;
             }
         }
-        s += 1;
+        false
     }
-    while s < rows {
-        if counts[(first + s) * ways] >= taken {
+
+    // At every block size where the block is found, one more in each row at its depth.
+    pub(crate) fn raise_all(&self, counts: &mut [u32], places: &[u32], depths: &[u32])
+        requires tabled { Tabled self.now (length counts.old) places.now depths.now }
+        requires none_over { over_by self.now places.now depths.now counts.old ≡ false }
+        ensures { counts.new ≡ raised_by self.now places.now depths.now counts.old }
+    {
+        let rows = self.order.rows();
+        let ways = self.order.ways as usize;
+        for k in 0..self.order.sizes() {
+            if places[k] < self.used[k] {
+                let at = k * Order::ROWS_MOST;
+                raise(&mut counts[k * rows * ways..], ways, &depths[at..at + rows]);
+            }
+        }
+    }
+}
+
+// Some count to be raised in the rows that `counts` begins with, one for each depth, is not below `taken`.
+// From the first depth of 0 on all are 0.
+fn size_over(counts: &[u32], ways: usize, depths: &[u32], taken: u32) -> bool
+    requires { Rows ways (length counts.now) depths.now }
+    ensures { result ≡ any_to (length depths.now) (over_row ways 0 (depth_in depths.now) taken counts.now) }
+{
+    for (s, depth) in depths.iter().enumerate() {
+        let d = *depth as usize;
+        if d == 0 {
+            return tops_over(&counts[s * ways..], ways, depths.len() - s, taken);
+        }
+        if d < ways && counts[s * ways + d] >= taken {
             return true;
         }
-        s += 1;
     }
     false
 }
 
-// Some count to be raised is not below the references taken.
-pub(crate) fn is_over(
-    counts: &[u32],
-    used: &[u32],
-    places: &[u32],
-    depths: &[u32],
-    sizes: usize,
-    rows: usize,
-    ways: usize,
-    taken: u32,
-) -> bool
-    requires { Tabled sizes rows ways (length counts.now) used.now places.now depths.now }
-    ensures { result
-        ≡ over_groups ways rows (found_by used.now places.now) (deep_by depths.now) taken sizes
-        counts.now }
-{
-    let mut k = 0usize;
-    while k < sizes {
-        if places[k] < used[k] {
-            if size_over(
-                counts,
-                k * rows,
-                ways,
-                depths,
-                k * Order::ROWS_MOST,
-                rows,
-                taken,
-            ) {
-                return true;
-            }
-        }
-        k += 1;
-    }
-    false
-}
-
-// In each of the `rows` rows from row `first` on, one more at the row's depth, where that is below `ways`.
+// In each of the rows that `counts` begins with, one for each depth, one more at that depth, where it is below `ways`.
 // From the first depth of 0 on all are 0.
-fn raise(counts: &mut [u32], first: usize, ways: usize, depths: &[u32], at: usize, rows: usize)
-    requires rows { Rows first rows ways (length counts.old) at depths.now }
-    requires raisable { Raisable first rows ways (depth_from at depths.now) counts.old }
-    ensures { counts.new ≡ raised_rows ways first (depth_from at depths.now) rows counts.old }
+fn raise(counts: &mut [u32], ways: usize, depths: &[u32])
+    requires rows { Rows ways (length counts.old) depths.now }
+    requires raisable { Raisable 0 (length depths.now) ways (depth_in depths.now) counts.old }
+    ensures { counts.new ≡ raised_rows ways 0 (depth_in depths.now) (length depths.now) counts.old }
 {
-    let mut s = 0usize;
-    while s < rows {
-        let d = depths[at + s] as usize;
+    for (s, depth) in depths.iter().enumerate() {
+        let d = *depth as usize;
         if d == 0 {
-            break;
+            raise_tops(&mut counts[s * ways..], ways, depths.len() - s);
+            return;
         }
         if d < ways {
-            let i = (first + s) * ways + d;
-            counts[i] = counts[i] + 1;
+            counts[s * ways + d] += 1;
         }
-        s += 1;
-    }
-    while s < rows {
-        let i = (first + s) * ways;
-        counts[i] = counts[i] + 1;
-        s += 1;
-    }
-}
-
-// The same at every block size where the block is found.
-pub(crate) fn raise_all(
-    counts: &mut [u32],
-    used: &[u32],
-    places: &[u32],
-    depths: &[u32],
-    sizes: usize,
-    rows: usize,
-    ways: usize,
-)
-    requires tabled { Tabled sizes rows ways (length counts.old) used.now places.now depths.now }
-    requires all_raisable { AllRaisable sizes rows ways (found_by used.now places.now) (deep_by depths.now) counts.old }
-    ensures { counts.new
-        ≡ raised_groups ways rows (found_by used.now places.now) (deep_by depths.now) sizes counts.old }
-{
-    let mut k = 0usize;
-    while k < sizes {
-        if places[k] < used[k] {
-            raise(counts, k * rows, ways, depths, k * Order::ROWS_MOST, rows);
-        }
-        k += 1;
     }
 }
 

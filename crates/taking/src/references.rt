@@ -9,8 +9,7 @@ ghost use Rattle.taking.specs.Taking.{Takes};
 ghost use Rattle.taking.specs.Parts.{count_most, Fit, Blank, wider_by, on_top, Walked, Looked};
 
 use crate::Opened;
-use crate::counting::{bump, is_over, raise_all, raise_tops, tops_over};
-use crate::moving::{is_full, move_all};
+use crate::counting::{bump, raise_tops, tops_over};
 use order::Order;
 use units::{Addr, BlockNo, Refusal};
 
@@ -82,23 +81,17 @@ impl Opened {
             → Takes (world self.old stacks.old counts.old) (ref a) (answer_of result)
             (world self.new stacks.new counts.new) }
     {
-        let sizes = self.order.sizes();
-        let rows = self.order.rows();
-        let ways = self.order.ways as usize;
-        let room = self.order.room as usize;
         let mut places = [0u32; Order::SIZES_MOST];
         let mut depths = [0u32; DEPTHS];
         self.look(stacks, first, &mut places, &mut depths);
-        if is_full(&places, sizes, self.order.room) {
+        if self.is_full(&places) {
             return Err(Refusal::StackFull);
         }
-        if is_over(
-            counts, &self.used, &places, &depths, sizes, rows, ways, self.taken,
-        ) {
+        if self.is_over(counts, &places, &depths) {
             return Err(Refusal::CountOver);
         }
-        raise_all(counts, &self.used, &places, &depths, sizes, rows, ways);
-        move_all(stacks, &mut self.used, &places, sizes, room, first);
+        self.raise_all(counts, &places, &depths);
+        self.move_all(stacks, &places, first);
         self.taken += 1;
         Ok(())
     }

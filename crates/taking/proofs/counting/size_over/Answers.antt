@@ -1,116 +1,46 @@
--- `size_over` meets its contract: no count of the rows passed was over. Where the second loop starts, every depth to come is 0. Assumes nothing.
-use mathlib.Core.Path.{sym, ◌∙◌}
-use native.Mathlib.Omega.{arith}
-use borrow.Author.Rules.{rules}
+-- `size_over` meets its contract: no count of the rows passed is over, and from the first depth of 0 on it lies with the first counts. Assumes nothing.
+use Rattle.std.proofs.Common.{sym, ◌∙◌, arith}
+use lib.ListN.{length-drop}
 use borrow.Author.Tests.{lt-ltb, le-ltb, le-leb, lt-leb}
 use Rattle.lists.specs.Tables.{over_row}
-use Rattle.lists.proofs.TestLaws.{any_none, any_more, any_yes, any_ended}
-use Rattle.lists.proofs.TopRowLaws.{over_top}
-use Rattle.taking.specs.Parts.{depth_from}
-use Rattle.taking.proofs.CellLaws.{row_at, cell_at}
+use Rattle.lists.proofs.PartLaws.{part_rest}
+use Rattle.lists.proofs.TestLaws.{any_none, any_more, any_yes}
+use Rattle.lists.proofs.TopRowLaws.{over_at, over_tops, tops_in}
+use Rattle.taking.specs.Parts.{depth_in}
 use Rattle.taking.proofs.counting.size_over.Goals as goal
-use Rattle.taking.proofs.counting.size_over.Goals.{then-d-ways+else-counts-first, else-d-ways, else-loop-s-test, then-loop-s-test+then-d-eq0}
+use Rattle.taking.proofs.counting.size_over.Goals.{else-d-ways-via-then-d-ways+else-counts-s, else-d-ways-via-else-d-ways}
 
-pub returns-then-counts-first : goal.returns-then-counts-first
-returns-then-counts-first c =
+pub loop-s-init : goal.loop-s-init
+loop-s-init c = any_none _
+
+pub tops_over-requires : goal.tops_over-requires
+tops_over-requires c =
     let a = c.args in
-    let l = c.loop-s in
-    let p = over_row a.ways a.first (depth_from a.at a.depths.now) a.taken a.counts.now in
-    sym (any_yes a.rows l.s p (omega arith) (simp (lt-ltb _ _ c.if-d-ways.true, le-leb _ _ c.if-counts-first.true)))
+    let s = c.loop-s.s in
+    rw part_rest (rw length-drop (tops_in a.ways (depth_in a.depths.now) a.counts.now s _ (omega arith) c.requires.falling c.if-d-eq0.true _ c.requires.inside), c.requires.some)
+
+pub returns-then-d-eq0 : goal.returns-then-d-eq0
+returns-then-d-eq0 c =
+    let a = c.args in
+    let s = c.loop-s.s in
+    simp part_rest at c.tops_over.ensures
+    ∙ over_tops a.ways (depth_in a.depths.now) a.counts.now s _ (omega arith) c.requires.falling c.if-d-eq0.true a.taken c.requires.some c.loop-s.invariant
+
+pub returns-then-counts-s : goal.returns-then-counts-s
+returns-then-counts-s c =
+    let a = c.args in
+    let s = c.loop-s.s in
+    let p = over_row a.ways 0 (depth_in a.depths.now) a.taken a.counts.now in
+    sym (any_yes _ s p (omega arith) (over_at a.ways (depth_in a.depths.now) a.taken a.counts.now s ∙ simp (lt-ltb _ _ c.if-d-ways.true, le-leb _ _ c.if-counts-s.true)))
 
 pub loop-s-preserved : goal.loop-s-preserved
 loop-s-preserved c =
     let a = c.args in
-    let l = c.loop-s in
-    let p = over_row a.ways a.first (depth_from a.at a.depths.now) a.taken a.counts.now in (
-      search rules,
-      any_more l.s p l.invariant.1
-          (elim c.if-d-ways.branch [
-            | then-d-ways+else-counts-first y ↦ simp (lt-ltb _ _ y.if-d-ways.true, lt-leb _ _ y.if-counts-first.false)
-            | else-d-ways y ↦ simp (le-ltb _ _ y.if-d-ways.false)
-          ]),
-    )
-
-pub loop-s-2-init : goal.loop-s-2-init
-loop-s-2-init c =
-    let l = c.loop-s in
-    let falling = c.requires.falling in
-    record {
-      upto = l.invariant.0;
-      none = l.invariant.1;
-      zero = elim c.loop-s-test.branch [
-        | else-loop-s-test y ↦ λ t h g. absurd (omega arith)
-        | then-loop-s-test+then-d-eq0 y ↦ λ t h g. falling l.s t h g y.if-d-eq0.true
-      ];
-    }
-
-pub returns-then-counts-first-2 : goal.returns-then-counts-first-2
-returns-then-counts-first-2 c =
-    let a = c.args in
-    let l = c.loop-s-2 in
-    let d = depth_from a.at a.depths.now in
-    let here = over_top a.ways a.first d a.taken a.counts.now l.s (l.invariant.zero l.s (omega arith) (omega arith)) (omega arith) in
-    sym (any_yes a.rows l.s (over_row a.ways a.first d a.taken a.counts.now) (omega arith) (here ∙ le-leb _ _ c.if-counts-first-2.true))
-
-pub loop-s-2-preserved : goal.loop-s-2-preserved
-loop-s-2-preserved c =
-    let a = c.args in
-    let l = c.loop-s-2 in
-    let d = depth_from a.at a.depths.now in
-    let here = over_top a.ways a.first d a.taken a.counts.now l.s (l.invariant.zero l.s (omega arith) (omega arith)) (omega arith) in
-    record {
-      upto = search rules;
-      none = any_more l.s (over_row a.ways a.first d a.taken a.counts.now) l.invariant.none (here ∙ lt-leb _ _ c.if-counts-first-2.false);
-      zero = λ t h g. l.invariant.zero t (omega arith) g;
-    }
-
-pub returns : goal.returns
-returns c =
-    let a = c.args in
-    let l = c.loop-s-2 in
-    let p = over_row a.ways a.first (depth_from a.at a.depths.now) a.taken a.counts.now in
-    sym (any_ended a.rows l.s p (omega arith) (omega arith) l.invariant.none)
-
-pub loop-s-init : goal.loop-s-init
-loop-s-init c = (search rules, any_none _)
-
-pub overflow_add-first : goal.overflow_add-first
-overflow_add-first c =
-    let a = c.args in let d = depth_from a.at a.depths.now c.loop-s.s in
-    omega (arith, cell_at a.ways a.first a.rows c.loop-s.s d (omega arith) (omega arith) c.if-d-ways.true)
-
-pub overflow_mul-first : goal.overflow_mul-first
-overflow_mul-first c =
-    let a = c.args in let d = depth_from a.at a.depths.now c.loop-s.s in
-    omega (arith, cell_at a.ways a.first a.rows c.loop-s.s d (omega arith) (omega arith) c.if-d-ways.true)
-
-pub overflow_add-first-then-d-ways : goal.overflow_add-first-then-d-ways
-overflow_add-first-then-d-ways c =
-    let a = c.args in let d = depth_from a.at a.depths.now c.loop-s.s in
-    omega (arith, cell_at a.ways a.first a.rows c.loop-s.s d (omega arith) (omega arith) c.if-d-ways.true)
-
-pub offset_bounds-counts-first : goal.offset_bounds-counts-first
-offset_bounds-counts-first c =
-    let a = c.args in let d = depth_from a.at a.depths.now c.loop-s.s in
-    omega (arith, cell_at a.ways a.first a.rows c.loop-s.s d (omega arith) (omega arith) c.if-d-ways.true)
-
-pub bounds-counts-first : goal.bounds-counts-first
-bounds-counts-first c =
-    let a = c.args in let d = depth_from a.at a.depths.now c.loop-s.s in
-    omega (arith, cell_at a.ways a.first a.rows c.loop-s.s d (omega arith) (omega arith) c.if-d-ways.true)
-
-pub overflow_add-first-in-loop-s-2 : goal.overflow_add-first-in-loop-s-2
-overflow_add-first-in-loop-s-2 c =
-    let a = c.args in omega (arith, row_at a.ways a.first a.rows c.loop-s-2.s (omega arith) (omega arith))
-
-pub overflow_mul-first-in-loop-s-2 : goal.overflow_mul-first-in-loop-s-2
-overflow_mul-first-in-loop-s-2 c =
-    let a = c.args in omega (arith, row_at a.ways a.first a.rows c.loop-s-2.s (omega arith) (omega arith))
-
-pub offset_bounds-counts-first-in-loop-s-2 : goal.offset_bounds-counts-first-in-loop-s-2
-offset_bounds-counts-first-in-loop-s-2 c =
-    let a = c.args in omega (arith, row_at a.ways a.first a.rows c.loop-s-2.s (omega arith) (omega arith))
-
-pub bounds-counts-first-in-loop-s-2 : goal.bounds-counts-first-in-loop-s-2
-bounds-counts-first-in-loop-s-2 c =
-    let a = c.args in omega (arith, row_at a.ways a.first a.rows c.loop-s-2.s (omega arith) (omega arith))
+    let s = c.loop-s.s in
+    let p = over_row a.ways 0 (depth_in a.depths.now) a.taken a.counts.now in
+    any_more s p c.loop-s.invariant
+    (over_at a.ways (depth_in a.depths.now) a.taken a.counts.now s
+    ∙ elim c.else-d-ways.branch [
+      | else-d-ways-via-then-d-ways+else-counts-s w ↦ simp (lt-ltb _ _ w.if-d-ways.true, lt-leb _ _ w.if-counts-s.false)
+      | else-d-ways-via-else-d-ways w ↦ simp (le-ltb _ _ w.if-d-ways.false)
+    ])
