@@ -1,3 +1,2 @@
-mod CountLaws
 pub mod StepLaws
 pub mod TableLaws

@@ -9,8 +9,7 @@ use Rattle.lines.specs.declared.Kinds.{Kinds}
 use Rattle.lines.specs.OrderLine.{OrderLine, Bmin, Bmax, Smax, Ways, Room, Refs, Counting, Begin, Refused as BadOrder}
 use Rattle.reading.specs.declared.Head.{Head}
 use Rattle.reading.specs.declared.Reading.{Reading}
-use Rattle.reading.specs.declared.Step.{Step}
-use Rattle.reading.specs.Reading.{bmin_next, bmax_next, smax_next, ways_next, room_next, refs_next, kinds_next, begin_next, trace_next}
+use Rattle.reading.specs.Reading.{Step, bmin_next, bmax_next, smax_next, ways_next, room_next, refs_next, kinds_next, begin_next, trace_next}
 use Rattle.reading.specs.Reading.{with_stage, with_head, Desk, with_reading, world_of, with_world, Outcome, outcome, answered, stays}
 
 -- one more thing that the head says

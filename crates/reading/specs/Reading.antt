@@ -9,7 +9,6 @@ use Rattle.lines.specs.declared.Kinds.TheVariants.{All}
 use Rattle.reading.specs.declared.Head.{Head}
 use Rattle.reading.specs.declared.Tally.{Tally}
 use Rattle.reading.specs.declared.Reading.{Reading}
-use Rattle.reading.specs.declared.Step.{Step}
 
 -- ---- the stages: what comes next
 
@@ -119,6 +118,10 @@ abbrev pub outcome : ℕ → Desk → Outcome
 outcome n d = record { answer = n; left = d }
 
 -- an answer and the next state
+pub record Step : Type 0 where
+  pub answer : ℕ
+  pub next : Reading
+
 abbrev pub answered : ℕ → Reading → Step
 answered n v = record { answer = n; next = v }
 

@@ -10,8 +10,7 @@ use Rattle.taking.specs.Taking.{take_answer, taken}
 use Rattle.lines.specs.Bytes.{past_longest}
 use Rattle.lines.specs.OrderLine.{order_line_of}
 use Rattle.reading.specs.declared.Reading.{Reading}
-use Rattle.reading.specs.declared.Step.{Step}
-use Rattle.reading.specs.Reading.{trace_next, at_line, with_tally}
+use Rattle.reading.specs.Reading.{Step, trace_next, at_line, with_tally}
 use Rattle.reading.specs.Reading.{Desk, with_reading, world_of, with_world, Outcome, outcome, answered, stays}
 use Rattle.reading.specs.Head.{order_step}
 use Rattle.reading.specs.Meaning.{Meaning, gives, skips, fails, meaning_of, tallied, column_or, given_by}

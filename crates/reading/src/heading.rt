@@ -1,119 +1,82 @@
 // A line of the order, before the trace: each has its place, and the begin line opens the order.
-ghost use Rattle.std.specs.Prelude.{◌≡◌, ◌<◌};
+ghost use Rattle.std.specs.Prelude.{◌≡◌, ◌+◌, ◌<◌, cond, eqb};
+ghost use Rattle.units.specs.Refusals.{answer_of, done, bad_order_line};
 ghost use Rattle.lines.specs.OrderLine.{order_line_of};
-ghost use Rattle.reading.specs.Reading.{desk, outcome};
+ghost use Rattle.reading.specs.Reading.{desk, outcome, answered, with_stage};
 ghost use Rattle.reading.specs.Head.{number_at, kinds_at, begin_at, order_step};
 
-use crate::{Head, Reading, Step, stage};
+use crate::{Reading, stage};
 use lines::{Kinds, OrderLine, order_line};
 use order::Order;
 use taking::Opened;
-use units::{ByteExp, refusal};
+use units::{ByteExp, Refusal};
 
-pub(crate) fn order_step(
-    reading: Reading,
-    line: &[u8],
-    stacks: &mut [u32],
-    counts: &mut [u32],
-) -> Step
-    ensures { outcome result.answer (desk result.next stacks.new counts.new)
-        ≡ order_step (desk reading stacks.old counts.old) (order_line_of line.now) }
-{
-    match order_line(line) {
-        Ok(OrderLine::Bmin(n)) => number(reading, stage::BMIN, n),
-        Ok(OrderLine::Bmax(n)) => number(reading, stage::BMAX, n),
-        Ok(OrderLine::Smax(n)) => number(reading, stage::SMAX, n),
-        Ok(OrderLine::Ways(n)) => number(reading, stage::WAYS, n),
-        Ok(OrderLine::Room(n)) => number(reading, stage::ROOM, n),
-        Ok(OrderLine::Refs(n)) => number(reading, stage::REFS, n),
-        Ok(OrderLine::Kinds(kinds)) => counting(reading, kinds),
-        Ok(OrderLine::Begin) => begin(reading, stacks, counts),
-        Err(refusal) => Step {
-            answer: u32::from(refusal),
-            next: reading,
-        },
+impl Reading {
+    pub(crate) fn order_step(
+        &mut self,
+        line: &[u8],
+        stacks: &mut [u32],
+        counts: &mut [u32],
+    ) -> Result<(), Refusal>
+        ensures { outcome (answer_of result) (desk self.new stacks.new counts.new)
+            ≡ order_step (desk self.old stacks.old counts.old) (order_line_of line.now) }
+    {
+        match order_line(line)? {
+            OrderLine::Bmin(n) => self.number(stage::BMIN, n),
+            OrderLine::Bmax(n) => self.number(stage::BMAX, n),
+            OrderLine::Smax(n) => self.number(stage::SMAX, n),
+            OrderLine::Ways(n) => self.number(stage::WAYS, n),
+            OrderLine::Room(n) => self.number(stage::ROOM, n),
+            OrderLine::Refs(n) => self.number(stage::REFS, n),
+            OrderLine::Kinds(kinds) => self.counting(kinds),
+            OrderLine::Begin => self.begin(stacks, counts),
+        }
     }
-}
 
-// One of the order's numbers.
-fn number(reading: Reading, place: u32, n: u32) -> Step
-    requires { place < 6 }
-    ensures { result ≡ number_at place n reading }
-{
-    let mut next = reading;
-    let stage = reading.stage;
-    if stage != place {
-        return Step {
-            answer: refusal::BAD_ORDER_LINE,
-            next,
-        };
+    // A line that stands at this place alone, and the next after it.
+    fn pass(&mut self, place: u32) -> Result<(), Refusal>
+        requires { place < 8 }
+        ensures { answered (answer_of result) self.new
+            ≡ cond (eqb self.old.stage place) (answered done (with_stage (place + 1) self.old)) (answered bad_order_line self.old) }
+    {
+        if self.stage != place {
+            return Err(Refusal::BadOrderLine);
+        }
+        self.stage = place + 1;
+        Ok(())
     }
-    let mut head = reading.head;
-    head.numbers[place as usize] = n;
-    next.head = head;
-    next.stage = place + 1;
-    Step {
-        answer: refusal::DONE,
-        next,
-    }
-}
 
-// What the order counts.
-fn counting(reading: Reading, kinds: Kinds) -> Step
-    ensures { result ≡ kinds_at kinds reading }
-{
-    let mut next = reading;
-    let stage = reading.stage;
-    if stage != stage::KINDS {
-        return Step {
-            answer: refusal::BAD_ORDER_LINE,
-            next,
-        };
+    // One of the order's numbers.
+    fn number(&mut self, place: u32, n: u32) -> Result<(), Refusal>
+        requires { place < 6 }
+        ensures { answered (answer_of result) self.new ≡ number_at place n self.old }
+    {
+        self.pass(place)?;
+        self.head.numbers[place as usize] = n;
+        Ok(())
     }
-    let numbers = reading.head.numbers;
-    let head = Head { numbers, kinds };
-    next.head = head;
-    next.stage = stage::BEGIN;
-    Step {
-        answer: refusal::DONE,
-        next,
-    }
-}
 
-// The begin line. An order outside its limits comes back as zeros, and opening these is refused as it is.
-fn begin(reading: Reading, stacks: &mut [u32], counts: &mut [u32]) -> Step
-    ensures { outcome result.answer (desk result.next stacks.new counts.new)
-        ≡ begin_at (desk reading stacks.old counts.old) }
-{
-    let stage = reading.stage;
-    if stage < stage::KINDS {
-        return Step {
-            answer: refusal::BAD_ORDER_LINE,
-            next: reading,
-        };
+    // What the order counts.
+    fn counting(&mut self, kinds: Kinds) -> Result<(), Refusal>
+        ensures { answered (answer_of result) self.new ≡ kinds_at kinds self.old }
+    {
+        self.pass(stage::KINDS)?;
+        self.head.kinds = kinds;
+        Ok(())
     }
-    if stage > stage::BEGIN {
-        return Step {
-            answer: refusal::BAD_ORDER_LINE,
-            next: reading,
-        };
+
+    // The begin line, after the numbers or after what is counted.
+    fn begin(&mut self, stacks: &mut [u32], counts: &mut [u32]) -> Result<(), Refusal>
+        ensures { outcome (answer_of result) (desk self.new stacks.new counts.new)
+            ≡ begin_at (desk self.old stacks.old counts.old) }
+    {
+        if self.stage != stage::KINDS && self.stage != stage::BEGIN {
+            return Err(Refusal::BadOrderLine);
+        }
+        let [bmin, bmax, smax, ways, room, refs] = self.head.numbers;
+        let order = Order::new(ByteExp(bmin), ByteExp(bmax), smax, ways, room, refs)?;
+        self.opened = Opened::open(order, stacks, counts)?;
+        self.stage = stage::TRACE;
+        Ok(())
     }
-    let numbers = reading.head.numbers;
-    let checked = Order::new(
-        ByteExp(numbers[0]),
-        ByteExp(numbers[1]),
-        numbers[2],
-        numbers[3],
-        numbers[4],
-        numbers[5],
-    );
-    let reply = Opened::open(checked.order, stacks, counts);
-    let answer = reply.answer;
-    let state = reply.state;
-    let mut next = reading;
-    if answer == 0 {
-        next.opened = state;
-        next.stage = stage::TRACE;
-    }
-    Step { answer, next }
 }

@@ -3,14 +3,13 @@
 #![tactic(auto)]
 
 ghost use Rattle.std.specs.Prelude.{◌≡◌, ◌+◌, min};
-ghost use Rattle.reading.specs.Reading.{desk, start as Reading·start, at_line};
+ghost use Rattle.units.specs.Refusals.{number_of, answer_of};
+ghost use Rattle.reading.specs.Reading.{desk, start as Reading·start, at_line, answered};
 ghost use Rattle.reading.specs.Step.{lines_most, Steps, long_line, ended as Reading·ended};
 
-use heading::order_step;
 use lines::{Kinds, PAST_LONGEST};
 use taking::Opened;
-use tracing::trace_step;
-use units::refusal;
+use units::Refusal;
 
 mod heading;
 pub mod stage;
@@ -26,21 +25,21 @@ pub const COUNT_ENTRIES: usize = 1920;
 pub const LINES_MOST: u64 = 4294967295;
 
 // What the order's lines said: its six numbers, in their order, and what it counts.
-#[derive(Clone, Copy)]
+#[derive(Clone, Copy, Debug, PartialEq, Eq)]
 pub struct Head {
     pub numbers: [u32; 6],
     pub kinds: Kinds,
 }
 
 // Lines of the trace, counted by what was done with them.
-#[derive(Clone, Copy)]
+#[derive(Clone, Copy, Debug, PartialEq, Eq)]
 pub struct Tally {
     pub skipped: u32,
     pub flushes: u32,
 }
 
 // How far the input is read.
-#[derive(Clone, Copy)]
+#[derive(Clone, Copy, Debug, PartialEq, Eq)]
 pub struct Reading {
     // Lines read so far; at a refusal, the number of its line.
     pub lines: u64,
@@ -51,14 +50,6 @@ pub struct Reading {
     pub head: Head,
     pub tally: Tally,
     pub opened: Opened,
-}
-
-// The next state, beside the answer number. Where that is not 0 the line next.lines is refused,
-// and a bad line of the trace at its column next.column.
-#[derive(Clone, Copy)]
-pub struct Step {
-    pub answer: u32,
-    pub next: Reading,
 }
 
 impl Reading {
@@ -82,84 +73,59 @@ impl Reading {
         }
     }
 
-    // One line, without its LF.
-    pub fn step(self, line: &[u8], stacks: &mut [u32], counts: &mut [u32]) -> Step
-        ensures { Steps (desk self stacks.old counts.old) line.now
-            result.answer (desk result.next stacks.new counts.new) }
+    // One line, without its LF. Where it is refused, it is the line self.lines, and a bad line of the trace is so at its column self.column.
+    pub fn step(
+        &mut self,
+        line: &[u8],
+        stacks: &mut [u32],
+        counts: &mut [u32],
+    ) -> Result<(), Refusal>
+        ensures { Steps (desk self.old stacks.old counts.old) line.now
+            (answer_of result) (desk self.new stacks.new counts.new) }
     {
-        let counted = self.counted();
-        let lines = counted.lines;
-        let stage = counted.stage;
-        if lines > LINES_MOST {
-            return Step {
-                answer: refusal::TOO_MANY_LINES,
-                next: counted,
-            };
+        self.next_line();
+        if self.lines > LINES_MOST {
+            return Err(Refusal::TooManyLines);
         }
-        if stage == stage::TRACE {
-            trace_step(counted, line, stacks, counts)
+        if self.stage == stage::TRACE {
+            self.trace_step(line, stacks, counts)
         } else {
-            order_step(counted, line, stacks, counts)
+            self.order_step(line, stacks, counts)
         }
     }
 
-    // A line that the line buffer cannot hold, however long it is.
-    pub fn long_line(self) -> Step
-        ensures { result ≡ long_line self }
+    // A line that the line buffer cannot hold, however long it is: it is refused.
+    pub fn long_line(&mut self) -> Refusal
+        ensures { answered (number_of result) self.new ≡ long_line self.old }
     {
-        let counted = self.counted();
-        let lines = counted.lines;
-        let stage = counted.stage;
-        if lines > LINES_MOST {
-            return Step {
-                answer: refusal::TOO_MANY_LINES,
-                next: counted,
-            };
+        self.next_line();
+        if self.lines > LINES_MOST {
+            return Refusal::TooManyLines;
         }
-        if stage == stage::TRACE {
-            let mut next = counted;
-            next.column = PAST_LONGEST;
-            Step {
-                answer: refusal::TOO_LONG,
-                next,
-            }
+        if self.stage == stage::TRACE {
+            self.column = PAST_LONGEST;
+            Refusal::TooLong
         } else {
-            Step {
-                answer: refusal::BAD_ORDER_LINE,
-                next: counted,
-            }
+            Refusal::BadOrderLine
         }
     }
 
     // The end of the input.
-    pub fn ended(self) -> Step
-        ensures { result ≡ Reading·ended self }
+    pub fn ended(&mut self) -> Result<(), Refusal>
+        ensures { answered (answer_of result) self.new ≡ Reading·ended self.old }
     {
-        let stage = self.stage;
-        if stage == stage::TRACE {
-            return Step {
-                answer: refusal::DONE,
-                next: self,
-            };
+        if self.stage == stage::TRACE {
+            return Ok(());
         }
-        Step {
-            answer: refusal::BAD_ORDER_LINE,
-            next: self.counted(),
-        }
+        self.next_line();
+        Err(Refusal::BadOrderLine)
     }
 
     // One line more is read, up to one more than an input may have, and no column of it is told yet.
-    fn counted(self) -> Reading
-        ensures { result ≡ at_line (min (self.lines + 1) (lines_most + 1)) 0 self }
+    fn next_line(&mut self)
+        ensures { self.new ≡ at_line (min (self.old.lines + 1) (lines_most + 1)) 0 self.old }
     {
-        let mut next = self;
-        let lines = self.lines;
-        next.column = 0;
-        if lines < LINES_MOST {
-            next.lines = lines + 1;
-        } else {
-            next.lines = LINES_MOST + 1;
-        }
-        next
+        self.lines = self.lines.min(LINES_MOST) + 1;
+        self.column = 0;
     }
 }

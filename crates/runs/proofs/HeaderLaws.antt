@@ -14,8 +14,7 @@ use Rattle.lines.specs.declared.Kinds.TheVariants.{All}
 use Rattle.lines.specs.OrderLine.{OrderLine, Bmin, Bmax, Smax, Ways, Room, Refs, Counting}
 use Rattle.reading.specs.declared.Head.{Head}
 use Rattle.reading.specs.declared.Reading.{Reading}
-use Rattle.reading.specs.declared.Step.{Step}
-use Rattle.reading.specs.Reading.{kinds_next, begin_next, Desk, world_of, Outcome, answered, stays}
+use Rattle.reading.specs.Reading.{Step, kinds_next, begin_next, Desk, world_of, Outcome, answered, stays}
 use Rattle.reading.specs.Head.{with_number, number_at, kinds_at}
 use Rattle.reading.specs.Meaning.{tallied_in}
 use Rattle.runs.specs.Input.{is_begin, order_in, kinds_in}

@@ -8,8 +8,7 @@ use lib.Dec.{eqb}
 use borrow.Author.Tests.{eq-eqb, ne_eqb, eqb-true, eqb-false}
 use Rattle.lists.proofs.Cases.{picked}
 use Rattle.reading.specs.declared.Reading.{Reading}
-use Rattle.reading.specs.declared.Step.{Step}
-use Rattle.reading.specs.Reading.{Desk, Outcome, outcome, stays}
+use Rattle.reading.specs.Reading.{Step, Desk, Outcome, outcome, stays}
 use Rattle.reading.specs.Step.{in_trace, is_too_many, step_of, long_line}
 use Rattle.reading.proofs.StepLaws.{long_line_is_step}
 use Rattle.runs.specs.Input.{Runs, at_end, done, refused, too_long, run_from}

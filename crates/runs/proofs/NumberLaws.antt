@@ -15,8 +15,7 @@ use Rattle.lines.specs.declared.Kinds.TheVariants.{All, Fetch, Data}
 use Rattle.lines.specs.OrderLine.{OrderLine, order_line_of}
 use Rattle.lines.proofs.CaseLaws.{order_cases}
 use Rattle.reading.specs.declared.Reading.{Reading}
-use Rattle.reading.specs.declared.Step.{Step}
-use Rattle.reading.specs.Reading.{kinds_next, begin_next, at_line}
+use Rattle.reading.specs.Reading.{Step, kinds_next, begin_next, at_line}
 use Rattle.reading.specs.Reading.{Desk, world_of, with_reading, Outcome, outcome, answered, stays}
 use Rattle.reading.specs.Meaning.{Meaning, meaning_of, column_or}
 use Rattle.reading.specs.Head.{number_at, kinds_at, order_of, begun, begin_at, order_step}

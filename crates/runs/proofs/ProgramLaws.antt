@@ -19,9 +19,8 @@ use Rattle.order.specs.Limits.{limits}
 use Rattle.taking.specs.Questions.{Counted, has, misses_of}
 use Rattle.lines.specs.declared.Kinds.{Kinds}
 use Rattle.lines.specs.OrderLine.{OrderLine, order_line_of}
-use Rattle.reading.specs.declared.Step.{Step}
 use Rattle.reading.specs.declared.Tally.{Tally}
-use Rattle.reading.specs.Reading.{trace_next, start, Desk, desk, world_of, Outcome, stays}
+use Rattle.reading.specs.Reading.{Step, trace_next, start, Desk, desk, world_of, Outcome, stays}
 use Rattle.reading.specs.Meaning.{given_in, tallied_in}
 use Rattle.reading.specs.Step.{in_trace, lines_most, step_of}
 use Rattle.runs.specs.Input.{Runs, run_from, is_begin, header_of, trace_of, order_in, kinds_in, meant_in, meant_of, given_of}

@@ -19,9 +19,8 @@ use Rattle.taking.specs.Taking.{taken}
 use Rattle.calls.proofs.HistoryLaws.{History, history_taken}
 use Rattle.calls.proofs.AnswerLaws.{answer_told}
 use Rattle.lines.specs.declared.Kinds.{Kinds}
-use Rattle.reading.specs.declared.Step.{Step}
 use Rattle.reading.specs.Meaning.{Meaning, gives, skips, fails, meaning_of, tallied, column_or, given_by, given_in}
-use Rattle.reading.specs.Reading.{Desk, world_of, Outcome, outcome, stays}
+use Rattle.reading.specs.Reading.{Step, Desk, world_of, Outcome, outcome, stays}
 use Rattle.reading.specs.Step.{line_answer, followed, refused_at, trace_step, in_trace, lines_most, is_too_many, counted, step_of}
 use Rattle.runs.specs.Input.{meant_in, run_from}
 use Rattle.runs.specs.Endings.{trace_answer, Ending, ends_at, ending_of, line_ending, trace_ending}

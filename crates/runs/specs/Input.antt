@@ -7,9 +7,8 @@ use Rattle.lines.specs.Bytes.{longest}
 use Rattle.lines.specs.declared.Kinds.{Kinds}
 use Rattle.lines.specs.declared.Kinds.TheVariants.{All}
 use Rattle.lines.specs.OrderLine.{OrderLine, Bmin, Bmax, Smax, Ways, Room, Refs, Counting, Begin, Refused as BadOrder, order_line_of}
-use Rattle.reading.specs.declared.Step.{Step}
 use Rattle.reading.specs.Meaning.{Meaning, meaning_of, given_in}
-use Rattle.reading.specs.Reading.{Desk, Outcome, outcome, stays}
+use Rattle.reading.specs.Reading.{Step, Desk, Outcome, outcome, stays}
 use Rattle.reading.specs.Step.{step_of, long_line, ended, Steps}
 
 -- ---- a run
