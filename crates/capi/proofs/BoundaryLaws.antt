@@ -1,11 +1,14 @@
 -- A state and its 15 numbers say the same, so a call's contract and the library's own give one another. In the order of `Boundary`.
 -- Assumes nothing.
 use Prim.Native.Nat.{ℕ}
-use mathlib.Core.Path.{◌≡◌, ap, ◌∙◌}
+use mathlib.Core.Path.{◌≡◌, sym, ap, ◌∙◌}
 use mathlib.Core.List.{List}
-use lib.ListN.{length}
+use native.Mathlib.Omega.{arith}
+use Rattle.std.proofs.lemmas.Grind.{common_steps}
+use lib.ListN.{length, take, drop}
+use lib.Seq.{take-length}
 use Rattle.lists.specs.Tests.{settled}
-use Rattle.lists.proofs.PartLaws.{read_from, read_all}
+use Rattle.lists.proofs.PartLaws.{read_all}
 use Rattle.lists.proofs.TestLaws.{settled_in}
 use Rattle.cache.specs.Cache.{Given}
 use Rattle.order.specs.declared.Order.{Order}
@@ -21,12 +24,14 @@ use Rattle.capi.specs.Boundary.{state_of, numbers_of, Says, Lent, lent, world_in
 abbrev pub with_used : Opened → List ℕ → Opened
 with_used v u = record { order = v.order; taken = v.taken; used = u }
 
--- the numbers read one by one
-pub state_read : (l : List ℕ) → length l ≡ 15 → Says l (with_used (state_of l) (read_from 8 7 l))
-state_read l h = record { state = ap (with_used (state_of l)) (read_all 8 7 l h); numbers_back = read_all 15 0 l h }
-
-pub numbers_read : (v : Opened) → length v.used ≡ 8 → numbers_of (with_used v (read_from 8 0 v.used)) ≡ numbers_of v
-numbers_read v h = ap (λ (u : List ℕ). numbers_of (with_used v u)) (read_all 8 0 v.used h)
+-- the first seven numbers, and the other eight
+pub state_read : (l used : List ℕ) → length l ≡ 15 → used ≡ take 8 (drop 7 l) → Says l (with_used (state_of l) used)
+state_read l used h e =
+    let rest : take 8 (drop 7 l) ≡ drop 7 l = grind (arith, common_steps, take-length) in
+    record {
+      state = ap (with_used (state_of l)) (e ∙ rest);
+      numbers_back = ap (λ (u : List ℕ). numbers_of (with_used (state_of l) u)) (e ∙ rest ∙ sym (read_all 8 7 l h)) ∙ read_all 15 0 l h;
+    }
 
 -- ---- opening
 

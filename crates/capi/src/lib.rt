@@ -9,9 +9,9 @@ ghost use Rattle.units.specs.Refusals.{answer_of};
 ghost use Rattle.strip.specs.Strip.{Strips};
 ghost use Rattle.capi.specs.Boundary.{numbers_of, lent, Says, CallsOpen, CallsTake, CallsMisses, CallsRatios};
 
-use order::Order;
+use order::{Cache, Order};
 use strip::strip;
-use taking::Opened;
+use taking::{Opened, Ratios};
 use units::{Addr, ByteExp, Refusal};
 
 // How many numbers a state has.
@@ -38,11 +38,10 @@ pub extern "C" fn kkaeduron_open(
         (lent state.old stacks.old counts.old)
         result (lent state.new stacks.new counts.new) }
 {
-    let checked = Order::new(ByteExp(bmin), ByteExp(bmax), smax, ways, room, refs);
-    let reply = Opened::open(checked.order, stacks, counts);
-    let opened = reply.state;
-    *state = numbers_of(opened);
-    reply.answer
+    let order = Order::new(ByteExp(bmin), ByteExp(bmax), smax, ways, room, refs);
+    let opened = Opened::open(order.unwrap_or(Order::none()), stacks, counts);
+    *state = numbers_of(opened.unwrap_or(Opened::none()));
+    number(&opened)
 }
 
 // Takes a reference, and puts the state that is handed back in the place of the one that was handed in.
@@ -57,11 +56,10 @@ pub extern "C" fn kkaeduron_take(
         (lent state.old stacks.old counts.old) (ref addr)
         result (lent state.new stacks.new counts.new) }
 {
-    let handed = state_from(*state);
-    let reply = handed.take_ref(stacks, counts, Addr(addr));
-    let opened = reply.state;
+    let mut opened = state_from(*state);
+    let answer = opened.take_ref(stacks, counts, Addr(addr));
     *state = numbers_of(opened);
-    reply.answer
+    number(&answer)
 }
 
 // Empties every stack, and puts the state that is handed back in the place of the one that was handed in.
@@ -71,11 +69,10 @@ pub extern "C" fn kkaeduron_flush(state: &mut [u32; STATE_NUMBERS], stacks: &mut
         (lent state.old stacks.old ct) flush
         result (lent state.new stacks.new ct) }
 {
-    let handed = state_from(*state);
-    let reply = handed.flush(stacks);
-    let emptied = reply.state;
+    let mut emptied = state_from(*state);
+    let answer = emptied.flush(stacks);
     *state = numbers_of(emptied);
-    reply.answer
+    number(&answer)
 }
 
 // Puts the misses of the cache (b, s, w) into a number.
@@ -90,10 +87,15 @@ pub extern "C" fn kkaeduron_misses(
 ) -> u32
     ensures { CallsMisses state.now counts.now b s w result misses.new }
 {
-    let handed = state_from(*state);
-    let counted = handed.misses(counts, ByteExp(b), s, w);
-    *misses = counted.misses;
-    counted.answer
+    let opened = state_from(*state);
+    let cache = Cache {
+        b: ByteExp(b),
+        s,
+        w,
+    };
+    let counted = opened.misses(counts, cache);
+    *misses = counted.unwrap_or(0);
+    number(&counted)
 }
 
 // Puts the two ratios of the cache (b, s, w), the miss ratio first, into two numbers.
@@ -108,10 +110,16 @@ pub extern "C" fn kkaeduron_ratios(
 ) -> u32
     ensures { CallsRatios state.now counts.now b s w result ratios.new }
 {
-    let handed = state_from(*state);
-    let rated = handed.ratios(counts, ByteExp(b), s, w);
-    *ratios = [rated.ratios.miss, rated.ratios.traffic];
-    rated.answer
+    let opened = state_from(*state);
+    let cache = Cache {
+        b: ByteExp(b),
+        s,
+        w,
+    };
+    let rated = opened.ratios(counts, cache);
+    let Ratios { miss, traffic } = rated.unwrap_or(Ratios::none());
+    *ratios = [miss, traffic];
+    number(&rated)
 }
 
 // Strips a list of addresses, and puts how many were kept into a number.
@@ -142,23 +150,25 @@ fn number<T>(answer: &Result<T, Refusal>) -> u32
     }
 }
 
-// The opened order that the numbers say.
+// The opened order that the numbers say. Neither this nor its reverse is a `From`: that would want a type
+// around C's array, put on and taken off at each call.
 fn state_from(state: [u32; STATE_NUMBERS]) -> Opened
     ensures { Says state result }
 {
+    let [bmin, bmax, smax, ways, room, refs, taken, ..] = state;
+    let mut used = [0; Order::SIZES_MOST];
+    used.copy_from_slice(&state[7..]);
     Opened {
         order: Order {
-            bmin: ByteExp(state[0]),
-            bmax: ByteExp(state[1]),
-            smax: state[2],
-            ways: state[3],
-            room: state[4],
-            refs: state[5],
+            bmin: ByteExp(bmin),
+            bmax: ByteExp(bmax),
+            smax,
+            ways,
+            room,
+            refs,
         },
-        taken: state[6],
-        used: [
-            state[7], state[8], state[9], state[10], state[11], state[12], state[13], state[14],
-        ],
+        taken,
+        used,
     }
 }
 
@@ -167,8 +177,8 @@ fn numbers_of(opened: Opened) -> [u32; STATE_NUMBERS]
     ensures { result ≡ numbers_of opened }
 {
     let order = opened.order;
-    let used = opened.used;
-    [
+    let mut numbers = [0; STATE_NUMBERS];
+    numbers[..7].copy_from_slice(&[
         order.bmin.0,
         order.bmax.0,
         order.smax,
@@ -176,13 +186,7 @@ fn numbers_of(opened: Opened) -> [u32; STATE_NUMBERS]
         order.room,
         order.refs,
         opened.taken,
-        used[0],
-        used[1],
-        used[2],
-        used[3],
-        used[4],
-        used[5],
-        used[6],
-        used[7],
-    ]
+    ]);
+    numbers[7..].copy_from_slice(&opened.used);
+    numbers
 }

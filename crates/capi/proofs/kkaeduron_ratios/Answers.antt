@@ -1,14 +1,13 @@
 -- `kkaeduron_ratios` meets its contract: what the library's question answers, from the state that the numbers say. Assumes nothing.
 use mathlib.Core.Path.{ap, ◌∙◌}
 use Rattle.taking.specs.declared.Opened.{Opened}
-use Rattle.taking.specs.declared.Rated.{Rated}
-use Rattle.taking.specs.Ratios.{ratios_of}
+use Rattle.taking.specs.Ratios.{Rated, ratios_of}
 use Rattle.capi.specs.Boundary.{both_of}
 use Rattle.capi.proofs.kkaeduron_ratios.Goals as goal
 
 pub returns : goal.returns
 returns c =
     let a = c.args in
-    let says = c.state_from-handed.ensures in
+    let says = c.state_from-opened.ensures in
     let call = c.ratios-rated.ensures ∙ ap (λ (v : Opened). ratios_of v a.counts.now a.b a.s a.w) says.state in
-    record { answer = ap (λ (q : Rated). q.answer) call; ratios = ap (λ (q : Rated). both_of q.ratios) call }
+    record { answer = c.number.ensures ∙ ap (λ (q : Rated). q.answer) call; ratios = ap both_of (rw c.none.ensures at c.unwrap_or-miss.ensures) ∙ ap (λ (q : Rated). both_of q.ratios) call }

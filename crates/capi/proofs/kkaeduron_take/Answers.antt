@@ -7,5 +7,6 @@ use Rattle.capi.proofs.kkaeduron_take.Goals as goal
 pub returns : goal.returns
 returns c =
     let a = c.args in
-    take_called (lent a.state.now a.stacks.now a.counts.now) (ref a.addr) c.state_from-handed.ensures c.take_ref-reply.ensures
-    c.numbers_of.ensures
+    rw c.number.ensures
+    (take_called (lent a.state.now a.stacks.now a.counts.now) (ref a.addr) c.state_from-opened.ensures c.take_ref-answer.ensures
+    c.numbers_of.ensures)
