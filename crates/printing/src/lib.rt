@@ -2,7 +2,7 @@
 // the walk over the caches of the table.
 #![tactic(auto)]
 
-ghost use Rattle.std.specs.Prelude.{◌≡◌, ◌+◌, ◌≤◌, length, get_or};
+ghost use Rattle.std.specs.Prelude.{◌≡◌, ◌+◌, ◌≤◌, length};
 ghost use Rattle.printing.specs.Printed.{decimal_of, head_lines, line_at, refusal_line};
 ghost use Rattle.printing.specs.Forms.{filled, most, Puts, Prints};
 ghost use Rattle.printing.specs.Grid.{first_cache, next_cache};
@@ -85,15 +85,8 @@ pub fn head_lines(refs: u32, tally: Tally, out: &mut [u8]) -> usize
     if out.len() < LINE_MOST {
         return 0;
     }
-    let skipped = tally.skipped;
-    let flushes = tally.flushes;
-    let numbers = [2, refs as u64, skipped as u64, flushes as u64];
-    fill(
-        out,
-        0,
-        b"edition=#\nrefs=#\nskipped=#\nflushes=#\n",
-        &numbers,
-    )
+    let numbers = [2, refs as u64, tally.skipped as u64, tally.flushes as u64];
+    fill(out, b"edition=#\nrefs=#\nskipped=#\nflushes=#\n", &numbers)
 }
 
 // The line of one cache; nothing where the question is refused.
@@ -112,7 +105,7 @@ pub fn cache_line(at: Walk, opened: Opened, counts: &[u32], out: &mut [u8]) -> u
     }
     let misses = counted.misses;
     let numbers = [b as u64, s as u64, w as u64, misses as u64];
-    fill(out, 0, b"b=# s=# w=# misses=#\n", &numbers)
+    fill(out, b"b=# s=# w=# misses=#\n", &numbers)
 }
 
 // The refusal, with the column of a trace line that is bad.
@@ -124,10 +117,10 @@ pub fn refusal_line(answer: u32, line: u64, column: u32, out: &mut [u8]) -> usiz
     }
     if has_column(answer) {
         let numbers = [answer as u64, line, column as u64];
-        return fill(out, 0, b"refused=# line=# column=#\n", &numbers);
+        return fill(out, b"refused=# line=# column=#\n", &numbers);
     }
     let numbers = [answer as u64, line];
-    fill(out, 0, b"refused=# line=#\n", &numbers)
+    fill(out, b"refused=# line=#\n", &numbers)
 }
 
 // Puts a text from `at` on; gives the place after it.
@@ -135,12 +128,9 @@ fn put(out: &mut [u8], at: usize, text: &[u8]) -> usize
     requires { at + length text.now ≤ length out.old }
     ensures { Puts text.now at out.old result out.new }
 {
-    let mut i = 0usize;
-    while i < text.len() {
-        out[at + i] = text[i];
-        i += 1;
-    }
-    at + i
+    let end = at + text.len();
+    out[at..end].copy_from_slice(text);
+    end
 }
 
 // A number in decimal.
@@ -153,32 +143,20 @@ fn put_number(out: &mut [u8], at: usize, n: u64) -> usize
     put(out, at, &digits[..k])
 }
 
-// The number at a place, or 0 where there is none.
-fn number_at(numbers: &[u64], k: usize) -> u64
-    ensures { result ≡ get_or numbers.now k 0 }
+// A form filled in from the start of the buffer on: each `#` in it stands for the next number, or for 0 where they are used up.
+fn fill(out: &mut [u8], form: &[u8], numbers: &[u64]) -> usize
+    requires { most form.now ≤ length out.old }
+    ensures { Puts (filled form.now numbers.now) 0 out.old result out.new }
 {
-    if k < numbers.len() { numbers[k] } else { 0 }
-}
-
-// A form filled in: each `#` in it stands for the next number.
-fn fill(out: &mut [u8], at: usize, form: &[u8], numbers: &[u64]) -> usize
-    requires { at + most form.now ≤ length out.old }
-    ensures { Puts (filled form.now numbers.now) at out.old result out.new }
-{
-    let mut end = at;
-    let mut k = 0usize;
-    let mut i = 0usize;
-    while i < form.len() {
-        let c = form[i];
-        if c == b'#' {
-            let n = number_at(numbers, k);
+    let mut numbers = numbers.iter();
+    let mut end = 0usize;
+    for c in form {
+        if *c == b'#' {
+            let n = numbers.next().copied().unwrap_or(0);
             end = put_number(out, end, n);
-            k += 1;
-            i += 1;
         } else {
-            out[end] = c;
+            out[end] = *c;
             end += 1;
-            i += 1;
         }
     }
     end

@@ -1,50 +1,28 @@
 -- `fill` meets its contract: each turn puts one byte of the form, or one number. Assumes nothing.
-use Prim.Native.Nat.{ℕ}
-use mathlib.Core.Path.{subst}
-use native.Mathlib.Omega.{arith}
-use borrow.Author.Rules.{rules}
-use Rattle.printing.specs.Printed.{decimal_of}
-use Rattle.printing.specs.Forms.{Puts}
-use Rattle.printing.proofs.PutLaws.{fill_none, fill_number, fill_byte, fill_all, room_mark, room_byte}
+use Rattle.std.proofs.Common.{rules, arith, ◌≡◌, get_or, drop}
+use Rattle.std.proofs.lemmas.Grind.{common_steps}
+use Rattle.printing.proofs.PutLaws.{fill_number, fill_byte, fill_all, room_mark, room_byte}
 use Rattle.printing.proofs.fill.Goals as goal
-
-pub loop-i-init : goal.loop-i-init
-loop-i-init c = let a = c.args in fill_none a.form.now a.numbers.now a.at a.out.now (search rules)
+use Rattle.printing.proofs.fill.Goals.{then-c-eq35, else-c-eq35}
 
 pub put_number-end-requires : goal.put_number-end-requires
-put_number-end-requires c =
-    let l = c.loop-i in
-    let a = c.args in
-    let wide = room_mark a.form.now a.numbers.now a.at a.out.now l.i l.k l.end l.out l.invariant
-    (search rules) c.if-c-eq35.true in
-    omega arith
-
-pub loop-i-preserved-then-c-eq35 : goal.loop-i-preserved-then-c-eq35
-loop-i-preserved-then-c-eq35 c =
-    let l = c.loop-i in
-    let a = c.args in
-    let p = c.put_number-end in
-    let number = c.number_at-n.ensures in
-    fill_number a.form.now a.numbers.now a.at a.out.now l.i l.k l.end l.out l.invariant (search rules)
-    c.if-c-eq35.true p.result p.new.out
-    (subst (λ (n : ℕ). Puts (decimal_of n) l.end l.out p.result p.new.out) number p.ensures)
+put_number-end-requires c = omega (arith, room_mark _ _ _ _ _ _ _ c.loop-c.invariant c.loop-c-test.true c.if-c-eq35.true)
 
 pub bounds-out-end : goal.bounds-out-end
-bounds-out-end c =
-    let l = c.loop-i in
-    let a = c.args in
-    let wide = room_byte a.form.now a.numbers.now a.at a.out.now l.i l.k l.end l.out l.invariant
-    (search rules) c.if-c-eq35.false in
-    omega arith
+bounds-out-end c = omega (arith, room_byte _ _ _ _ _ _ _ c.loop-c.invariant c.loop-c-test.true c.if-c-eq35.false)
 
-pub loop-i-preserved : goal.loop-i-preserved
-loop-i-preserved c =
-    let l = c.loop-i in
+pub loop-c-preserved : goal.loop-c-preserved
+loop-c-preserved c =
+    let l = c.loop-c in
     let a = c.args in
-    fill_byte a.form.now a.numbers.now a.at a.out.now l.i l.k l.end l.out l.invariant (search rules) c.if-c-eq35.false
+    elim c.if-c-eq35.branch [
+      | then-c-eq35 w ↦
+          let first : w.unwrap_or-n.result ≡ get_or l.numbers.rest.now 0 0 = grind (arith, common_steps) in
+          let rest : w.next.new.self.rest.now ≡ drop 1 l.numbers.rest.now = grind (arith, common_steps) in
+          rw (w.out-is, w.numbers-is, w.end-is)
+          (fill_number _ _ _ _ _ _ _ l.invariant c.loop-c-test.true w.if-c-eq35.true _ _ first rest _ _ w.put_number-end.ensures)
+      | else-c-eq35 w ↦ rw (w.out-is, w.numbers-is, w.end-is) (fill_byte _ _ _ _ _ _ _ l.invariant c.loop-c-test.true w.if-c-eq35.false)
+    ]
 
 pub returns : goal.returns
-returns c =
-    let l = c.loop-i in
-    let a = c.args in
-    fill_all a.form.now a.numbers.now a.at a.out.now l.i l.k l.end l.out l.invariant (search rules)
+returns c = fill_all _ _ _ _ _ _ _ c.loop-c.invariant (search rules)
