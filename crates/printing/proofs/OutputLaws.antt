@@ -10,6 +10,7 @@ use borrow.Author.Tests.{eqb-true, eqb-false, eq-eqb, ne_eqb}
 use Rattle.lists.specs.Tests.{All≤}
 use Rattle.lists.proofs.Cases.{cases}
 use Rattle.lists.proofs.TestLaws.{all_yes}
+use Rattle.order.specs.declared.Cache.{Cache}
 use Rattle.order.specs.declared.Order.{Order}
 use Rattle.taking.specs.Opening.{unopened}
 use Rattle.taking.specs.Questions.{has, asked, misses_of}
@@ -23,24 +24,23 @@ use Rattle.feeding.specs.Lines.{lines_of}
 use Rattle.feeding.specs.Machine.{Held, fed, finished}
 use Rattle.feeding.specs.Feeding.{by_lines, start, held_by}
 use Rattle.feeding.proofs.RunLaws.{finished_run}
-use Rattle.printing.specs.declared.Walk.{Walk}
 use Rattle.printing.specs.Grid.{each_from, at, grid_of}
 use Rattle.printing.specs.Printed.{head_lines, cache_line, line_at, lines_by, table_of, output_of}
 use Rattle.printing.specs.Output.{line_over, table_over, refusal_for, ending_over, printed_for}
 
 -- ---- lines of caches, one after the other
 
-lines_append : (line : Walk → List ℕ) (a b : List Walk) → lines_by line (a ++ b) ≡ lines_by line a ++ lines_by line b
+lines_append : (line : Cache → List ℕ) (a b : List Cache) → lines_by line (a ++ b) ≡ lines_by line a ++ lines_by line b
 unfolding lines_by
 lines_append line [] b = refl
 lines_append line (c ∷ a) b = ap (line c ++◌) (lines_append line a b) ∙ sym (append_assoc (line c) (lines_by line a) (lines_by line b))
 
-lines_one : (line : Walk → List ℕ) (c : Walk) → lines_by line (c ∷ []) ≡ line c ++ []
+lines_one : (line : Cache → List ℕ) (c : Cache) → lines_by line (c ∷ []) ≡ line c ++ []
 unfolding lines_by
 lines_one line c = refl
 
-module _ (f g : Walk → List ℕ) where
-  each_same : (l : ℕ → List Walk) (n a : ℕ) → ((k : ℕ) → k ≤ n → lines_by f (l (a + k)) ≡ lines_by g (l (a + k)))
+module _ (f g : Cache → List ℕ) where
+  each_same : (l : ℕ → List Cache) (n a : ℕ) → ((k : ℕ) → k ≤ n → lines_by f (l (a + k)) ≡ lines_by g (l (a + k)))
       → lines_by f (each_from l a n) ≡ lines_by g (each_from l a n)
   unfolding each_from
   each_same l zero a h = subst (λ (m : ℕ). lines_by f (l m) ≡ lines_by g (l m)) (omega arith) (h 0 (omega arith))
@@ -55,7 +55,7 @@ module _ (st ct : List ℕ) (lines : List (List ℕ)) (o : Outcome) (run : Runs 
   abbrev r : Order
   r = o.left.reading.opened.order
 
-  abbrev ours : Walk → List ℕ
+  abbrev ours : Cache → List ℕ
   ours = line_at o.left.reading.opened o.left.counts
 
   cache_printed : (b s w : ℕ) → All≤ (asked r b s w) → ours (at b s w) ≡ line_over (given_of lines) (at b s w)

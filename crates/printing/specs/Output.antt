@@ -3,18 +3,18 @@
 use Rattle.std.specs.Prelude.{ℕ, cond, List, [], ◌++◌, eqb}
 use Rattle.lists.specs.Sums.{total}
 use Rattle.cache.specs.Cache.{Given, referred, misses_over}
+use Rattle.order.specs.declared.Cache.{Cache}
 use Rattle.taking.specs.Opening.{unopened}
 use Rattle.reading.specs.Meaning.{tallied_in}
 use Rattle.runs.specs.Input.{header_of, order_in, meant_of, given_of}
 use Rattle.runs.specs.Endings.{Ending, input_ending}
 use Rattle.feeding.specs.Lines.{lines_of}
-use Rattle.printing.specs.declared.Walk.{Walk}
 use Rattle.printing.specs.Grid.{grid_of}
 use Rattle.printing.specs.Printed.{head_lines, cache_line, refusal_line, lines_by}
 
 -- the line of one cache: its misses over what is given
-abbrev pub line_over : List Given → Walk → List ℕ
-line_over given c = cache_line c.b c.s c.w (misses_over c.b c.s c.w given)
+abbrev pub line_over : List Given → Cache → List ℕ
+line_over given c = cache_line c.b.0 c.s c.w (misses_over c.b.0 c.s c.w given)
 
 abbrev pub table_over : List (List ℕ) → List ℕ
 table_over lines =

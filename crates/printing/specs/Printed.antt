@@ -3,11 +3,11 @@ use Rattle.std.specs.Prelude.{ℕ, zero, suc, ◌+◌, ◌/◌, ◌%◌, ◌^◌
 use Prim.Native.Char.{code}
 use Rattle.units.specs.Refusals.{has_column}
 use Rattle.lines.specs.Bytes.{text}
+use Rattle.order.specs.declared.Cache.{Cache}
 use Rattle.taking.specs.declared.Opened.{Opened}
 use Rattle.taking.specs.Questions.{Counted, misses_of}
 use Rattle.reading.specs.declared.Reading.{Reading}
 use Rattle.reading.specs.declared.Tally.{Tally}
-use Rattle.printing.specs.declared.Walk.{Walk}
 use Rattle.printing.specs.Grid.{grid_of}
 
 -- ---- a number
@@ -57,14 +57,14 @@ refusal_line answer line column =
     line_of (text "refused", answer) ((text "line", line) ∷ cond (has_column answer) ((text "column", column) ∷ []) [])
 
 -- the line of one cache, by what the question gives: nothing is invented beside a refusal
-abbrev pub line_by : Walk → Counted → List ℕ
-line_by c q = cond (eqb q.answer 0) (cache_line c.b c.s c.w q.misses) []
+abbrev pub line_by : Cache → Counted → List ℕ
+line_by c q = cond (eqb q.answer 0) (cache_line c.b.0 c.s c.w q.misses) []
 
-abbrev pub line_at : Opened → List ℕ → Walk → List ℕ
-line_at v ct c = line_by c (misses_of v ct c.b c.s c.w)
+abbrev pub line_at : Opened → List ℕ → Cache → List ℕ
+line_at v ct c = line_by c (misses_of v ct c.b.0 c.s c.w)
 
 -- the lines of caches, one after the other
-unfoldable pub lines_by : (Walk → List ℕ) → List Walk → List ℕ
+unfoldable pub lines_by : (Cache → List ℕ) → List Cache → List ℕ
 lines_by line [] = []
 lines_by line (c ∷ more) = line c ++ lines_by line more
 

@@ -3,11 +3,12 @@
 #![tactic(auto)]
 
 ghost use Rattle.std.specs.Prelude.{◌≡◌, ◌+◌, ◌≤◌, length};
+ghost use Rattle.std.specs.Iterator.{YieldsFirst, item_count};
 ghost use Rattle.printing.specs.Printed.{decimal_of, head_lines, line_at, refusal_line};
 ghost use Rattle.printing.specs.Forms.{filled, most, Puts, Prints};
-ghost use Rattle.printing.specs.Grid.{first_cache, next_cache};
+ghost use Rattle.printing.specs.Grid.{grid_of, next_cache, caches_left};
 
-use order::Order;
+use order::{Cache, Order};
 use reading::Tally;
 use taking::Opened;
 use units::ByteExp;
@@ -16,65 +17,61 @@ use units::refusal::has_column;
 // How long a lent buffer must be: the head has 113 bytes at most, and a line of the table 97.
 pub const LINE_MOST: usize = 128;
 
-// The cache whose line comes next, or that none does.
+// The caches of an order, in the order of the table: w upward, then s, then b.
 #[derive(Clone, Copy)]
 pub struct Walk {
-    pub over: bool,
-    pub b: u32,
-    pub s: u32,
-    pub w: u32,
+    order: Order,
+    next: Option<Cache>,
 }
 
 impl Walk {
-    // At the first cache of the table.
-    pub fn first(order: Order) -> Walk
-        ensures { result ≡ first_cache order }
+    // Over all of them.
+    pub fn over(order: Order) -> Walk
+        ensures { caches_left result ≡ grid_of order }
     {
-        Walk {
-            over: false,
-            b: order.bmin.0,
+        let first = Cache {
+            b: order.bmin,
             s: 0,
             w: 1,
+        };
+        Walk {
+            order,
+            next: Some(first),
         }
     }
+}
 
-    // The next cache: w upward, then s, then b.
-    pub fn next(self, order: Order) -> Walk
-        ensures { result ≡ next_cache order self }
-    {
-        let b = self.b;
-        let s = self.s;
-        let w = self.w;
-        if w < order.ways {
-            return Walk {
-                over: false,
-                b,
-                s,
-                w: w + 1,
-            };
-        }
-        if s < order.smax {
-            return Walk {
-                over: false,
-                b,
-                s: s + 1,
-                w: 1,
-            };
-        }
-        if b < order.bmax.0 {
-            return Walk {
-                over: false,
-                b: b + 1,
-                s: 0,
-                w: 1,
-            };
-        }
-        Walk {
-            over: true,
-            b: 0,
+impl Iterator for Walk {
+    type Item = Cache;
+
+    ghost next_gives = { YieldsFirst caches_left };
+
+    ghost remaining = { item_count caches_left };
+
+    fn next(&mut self) -> Option<Cache> {
+        let cache = self.next?;
+        self.next = cache_after(self.order, cache);
+        Some(cache)
+    }
+}
+
+// The next cache.
+fn cache_after(order: Order, cache: Cache) -> Option<Cache>
+    ensures { result ≡ next_cache order cache }
+{
+    let Cache { b, s, w } = cache;
+    if w < order.ways {
+        Some(Cache { b, s, w: w + 1 })
+    } else if s < order.smax {
+        Some(Cache { b, s: s + 1, w: 1 })
+    } else if b.0 < order.bmax.0 {
+        Some(Cache {
+            b: ByteExp(b.0 + 1),
             s: 0,
-            w: 0,
-        }
+            w: 1,
+        })
+    } else {
+        None
     }
 }
 
@@ -90,21 +87,18 @@ pub fn head_lines(refs: u32, tally: Tally, out: &mut [u8]) -> usize
 }
 
 // The line of one cache; nothing where the question is refused.
-pub fn cache_line(at: Walk, opened: Opened, counts: &[u32], out: &mut [u8]) -> usize
-    ensures { Prints (line_at opened counts.now at) out.old result out.new }
+pub fn cache_line(cache: Cache, opened: Opened, counts: &[u32], out: &mut [u8]) -> usize
+    ensures { Prints (line_at opened counts.now cache) out.old result out.new }
 {
     if out.len() < LINE_MOST {
         return 0;
     }
-    let b = at.b;
-    let s = at.s;
-    let w = at.w;
-    let counted = opened.misses(counts, ByteExp(b), s, w);
+    let Cache { b, s, w } = cache;
+    let counted = opened.misses(counts, b, s, w);
     if counted.answer != 0 {
         return 0;
     }
-    let misses = counted.misses;
-    let numbers = [b as u64, s as u64, w as u64, misses as u64];
+    let numbers = [b.0 as u64, s as u64, w as u64, counted.misses as u64];
     fill(out, b"b=# s=# w=# misses=#\n", &numbers)
 }
 

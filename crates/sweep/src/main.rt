@@ -15,26 +15,24 @@ fn main(rt: HostRuntime) {
     let mut stacks = [0u32; STACK_ENTRIES];
     let mut counts = [0u32; COUNT_ENTRIES];
     let mut chunk = [0u8; 65536];
-    let ended = run(&mut rt.stdin(), &mut chunk, &mut stacks, &mut counts);
-    if ended.failed {
+    let Ok(feeding) = run(&mut rt.stdin(), &mut chunk, &mut stacks, &mut counts) else {
         tell(
             &mut rt.stderr(),
             b"sweep: standard input could not be read, so no table is printed\n",
         );
         return;
-    }
-    let feeding = ended.feeding;
+    };
     let reading = feeding.reading;
     let answer = feeding.answer;
     if answer == 0 {
-        if !table(&mut rt.stdout(), reading, &counts) {
+        if table(&mut rt.stdout(), reading, &counts).is_err() {
             tell(
                 &mut rt.stderr(),
                 b"sweep: standard output could not be written, so the table is not whole\n",
             );
         }
     } else {
-        if !refused(&mut rt.stdout(), answer, reading.lines, reading.column) {
+        if refused(&mut rt.stdout(), answer, reading.lines, reading.column).is_err() {
             tell(
                 &mut rt.stderr(),
                 b"sweep: standard output could not be written, so the refusal is not whole\n",

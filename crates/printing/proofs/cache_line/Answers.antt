@@ -16,8 +16,8 @@ returns c =
     let a = c.args in
     let n = c.misses-counted.result.misses in
     let done = eq-eqb c.misses-counted.result.answer 0 c.if-counted-ne0.false in
-    let some = ap (λ (t : Bool). cond t (cache_line a.at.b a.at.s a.at.w n) []) done in
-    let given = cache_form_lem a.at.b a.at.s a.at.w n ∙ sym some ∙ ap (line_by a.at) c.misses-counted.ensures in
-    let line = line_at a.opened a.counts.now a.at in
+    let some = ap (λ (t : Bool). cond t (cache_line a.cache.b.0 a.cache.s a.cache.w n) []) done in
+    let given = cache_form_lem a.cache.b.0 a.cache.s a.cache.w n ∙ sym some ∙ ap (line_by a.cache) c.misses-counted.ensures in
+    let line = line_at a.opened a.counts.now a.cache in
     let wide = c.if-out-lt-LINE_MOST.false in
-    prints_form a.out.now wide cache_form (a.at.b ∷ a.at.s ∷ a.at.w ∷ n ∷ []) line given cache_most _ _ c.fill.ensures
+    prints_form a.out.now wide cache_form (a.cache.b.0 ∷ a.cache.s ∷ a.cache.w ∷ n ∷ []) line given cache_most _ _ c.fill.ensures

@@ -13,6 +13,6 @@ returns-clause-came g c =
     let same = length-set chunk 0 lf in
     record {
       fits = omega (arith, same, some);
-      some = λ z w. absurd (true≢false w);
-      end = λ z w. take-suc-set chunk 0 lf some ∙ sym (ap (λ (t : Bool). cond t (lf ∷ []) []) c.if-not-begun.false);
+      some = λ w. absurd (true≢false w);
+      end = λ w. take-suc-set chunk 0 lf some ∙ sym (ap (λ (t : Bool). cond t (lf ∷ []) []) c.if-not-begun.false);
     }

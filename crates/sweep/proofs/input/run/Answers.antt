@@ -8,55 +8,59 @@ pub loop-came-init : goal.loop-came-init
 loop-came-init g c =
     from_none (g.R.Read.remaining c.args.input.now) c.args.stacks.now c.args.counts.now c.start-feeding.result c.start-feeding.ensures
 
-pub returns-then-came-2 : goal.returns-then-came-2
-returns-then-came-2 g c =
+pub returns-then-came : goal.returns-then-came
+returns-then-came g c =
     let l = c.loop-came in
-    let came = c.read_more-came in
+    let read = c.read_more in
+    let told = c.in_ok-came.ensures in
     let k = c.feed-feeding in
-    let slice = take came.result.len came.new.chunk in
-    let ended : came.result.last ≡ true = search rules in
-    let last = came.ensures.came.end c.if-came.false ended in
+    let slice = take c.in_ok-came.came.len read.new.chunk in
+    let ended : c.in_ok-came.came.last ≡ true = search rules in
+    let last = told.came.end ended in
     record {
-      ran = λ z.
+      ran =
           read_ended c.args.stacks.now c.args.counts.now l.feeding l.stacks l.counts l.invariant.read slice
-          k.result k.new.stacks k.new.counts k.ensures last c.ended-ended.result c.ended-ended.ensures;
-      ran_over = λ z.
+          k.result k.new.stacks k.new.counts k.ensures last c.ended.result c.ended.ensures;
+      ran_over =
           ended_over (g.R.Read.remaining c.args.input.now) (g.R.Read.remaining l.input) c.args.stacks.now c.args.counts.now
-          l.feeding l.stacks l.counts l.invariant slice k.result k.new.stacks k.new.counts k.ensures (g.R.Read.remaining came.new.input)
-          (came.ensures.drawn.none_left c.if-came.false ended) last c.ended-ended.result c.ended-ended.ensures;
+          l.feeding l.stacks l.counts l.invariant slice k.result k.new.stacks k.new.counts k.ensures (g.R.Read.remaining read.new.input)
+          (told.drawn.none_left ended) last c.ended.result c.ended.ensures;
     }
 
-pub returns-then-answer-ne0 : goal.returns-then-answer-ne0
-returns-then-answer-ne0 g c =
+pub returns-then-feeding-ne0 : goal.returns-then-feeding-ne0
+returns-then-feeding-ne0 g c =
     let l = c.loop-came in
-    let came = c.read_more-came in
+    let read = c.read_more in
+    let told = c.in_ok-came.ensures in
     let k = c.feed-feeding in
-    let slice = take came.result.len came.new.chunk in
+    let slice = take c.in_ok-came.came.len read.new.chunk in
     record {
-      ran = λ z.
+      ran =
           read_refused c.args.stacks.now c.args.counts.now l.feeding l.stacks l.counts l.invariant.read slice
-          k.result k.new.stacks k.new.counts k.ensures c.if-answer-ne0.true;
-      ran_over = λ z.
+          k.result k.new.stacks k.new.counts k.ensures c.if-feeding-ne0.true;
+      ran_over =
           refused_over (g.R.Read.remaining c.args.input.now) (g.R.Read.remaining l.input) c.args.stacks.now c.args.counts.now
-          l.feeding l.stacks l.counts l.invariant slice k.result k.new.stacks k.new.counts k.ensures (g.R.Read.remaining came.new.input)
-          (came.ensures.drawn.taken c.if-came.false c.if-came-2.false) c.if-answer-ne0.true;
+          l.feeding l.stacks l.counts l.invariant slice k.result k.new.stacks k.new.counts k.ensures (g.R.Read.remaining read.new.input)
+          (told.drawn.taken (search rules)) c.if-feeding-ne0.true;
     }
 
 pub loop-came-smaller : goal.loop-came-smaller
 loop-came-smaller g c =
     let l = c.loop-came in
-    let came = c.read_more-came in
+    let told = c.in_ok-came.ensures in
     let k = c.feed-feeding in
-    let long = length-take-le came.result.len came.new.chunk came.ensures.came.fits in
-    let some = came.ensures.came.some c.if-came.false c.if-came-2.false in
-    read_less c.args.stacks.now c.args.counts.now l.feeding l.stacks l.counts l.invariant.read (take came.result.len came.new.chunk)
-    k.result k.new.stacks k.new.counts k.ensures c.if-answer-ne0.false (omega (arith, long, some))
+    let len = c.in_ok-came.came.len in
+    let chunk = c.read_more.new.chunk in
+    let long = length-take-le len chunk told.came.fits in
+    let some = told.came.some (search rules) in
+    read_less c.args.stacks.now c.args.counts.now l.feeding l.stacks l.counts l.invariant.read (take len chunk)
+    k.result k.new.stacks k.new.counts k.ensures c.if-feeding-ne0.false (omega (arith, long, some))
 
 pub loop-came-preserved : goal.loop-came-preserved
 loop-came-preserved g c =
     let l = c.loop-came in
-    let came = c.read_more-came in
+    let read = c.read_more in
     let k = c.feed-feeding in
     from_more (g.R.Read.remaining c.args.input.now) (g.R.Read.remaining l.input) c.args.stacks.now c.args.counts.now
-    l.feeding l.stacks l.counts l.invariant (take came.result.len came.new.chunk) k.result k.new.stacks k.new.counts k.ensures
-    (g.R.Read.remaining came.new.input) (came.ensures.drawn.taken c.if-came.false c.if-came-2.false) c.if-answer-ne0.false
+    l.feeding l.stacks l.counts l.invariant (take c.in_ok-came.came.len read.new.chunk) k.result k.new.stacks k.new.counts k.ensures
+    (g.R.Read.remaining read.new.input) (c.in_ok-came.ensures.drawn.taken (search rules)) c.if-feeding-ne0.false

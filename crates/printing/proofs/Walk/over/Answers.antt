@@ -1,0 +1,6 @@
+-- `over` meets its contract: from the first cache on, all are left. Assumes nothing.
+use Rattle.printing.proofs.WalkLaws.{all_left}
+use Rattle.printing.proofs.Walk.over.Goals as goal
+
+pub returns : goal.returns
+returns c = all_left c.args.order
