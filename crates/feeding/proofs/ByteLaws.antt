@@ -1,18 +1,17 @@
 -- The machine of bytes, of any reader: what one byte does in each case, and what a run of bytes that belong to one line does. Assumes nothing.
 use Prim.Native.Nat.{ℕ, suc, ◌+◌, ◌≤◌, ◌<◌}
-use mathlib.Core.Path.{◌≡◌, refl, sym, ap, ap₂, ◌∙◌}
+use mathlib.Core.Path.{◌≡◌, refl, ap, ap₂, ◌∙◌}
 use mathlib.Core.Bool.{true, false}
 use mathlib.Core.List.{List, [], ◌∷◌, ◌++◌}
 use native.Mathlib.Omega.{arith}
 use native.Mathlib.Numerals.{add-one}
 use lib.Dec.{eqb}
-use lib.ListN.{length, take, drop, get_or, set, take-append-drop, length-drop}
-use lib.Seq.{sets, sets-eq, length-take-le, drop-drop, get_or-take, get_or-drop, drop-cons}
+use lib.ListN.{length, get_or, set}
+use lib.Seq.{sets}
 use borrow.Author.Tests.{eq-eqb, ne_eqb, le-leb, lt-leb}
 use Rattle.lists.proofs.Cases.{cases}
 use Rattle.lines.specs.Bytes.{longest}
 use Rattle.feeding.specs.Lines.{lf}
-use Rattle.feeding.specs.Parts.{Copied}
 use Rattle.feeding.specs.Machine.{Reader, Held, held, line_refused, line_ends, feed_byte, fed, last_line, input_ends, finished}
 
 -- what the laws ask of a reader: a line refused before it ends is refused as the whole line would be, whatever it says
@@ -69,40 +68,20 @@ module _ {S : Type 0} (r : Reader S) (s : S) (goes : r.is_over s ≡ false) (few
       ∙ part_kept part (n + 1) (set line n b) rest (λ i z. none (suc i) (omega arith)) (omega arith)
       ∙ ap₂ (λ (k : ℕ) (l : List ℕ). fed r (held s k l) rest) (omega arith) (ap (λ (k : ℕ). sets (set line n b) k part) (add-one n))
 
-  -- what was copied is what these bytes leave
-  pub copied : (bytes : List ℕ) (at : ℕ) (line : List ℕ) (len n : ℕ) (line' : List ℕ) → Copied bytes at line len n line' → length line ≡ longest
-      → fed r (held s len line) (drop at bytes) ≡ fed r (held s (len + n) line') (drop (at + n) bytes)
-  copied bytes at line len n line' c whole =
-      let part = take n (drop at bytes) in
-      let rest = drop n (drop at bytes) in
-      let many : n ≤ length (drop at bytes) = omega (arith, length-drop at bytes) in
-      let long : length part ≡ n = length-take-le n (drop at bytes) many in
-      let same : sets line len part ≡ line' =
-      sets-eq part line len (omega arith) ∙ ap (λ (k : ℕ). take len line ++ part ++ drop (len + k) line) long ∙ sym c.copy in
-      ap (fed r (held s len line)) (sym (take-append-drop n (drop at bytes)))
-      ∙ part_kept part len line rest
-      (λ i h e. c.before i (omega arith) (sym (get_or-drop at bytes i 0) ∙ sym (get_or-take n (drop at bytes) i 0 (omega arith)) ∙ e)) (omega arith)
-      ∙ ap₂ (λ (k : ℕ) (l : List ℕ). fed r (held s (len + k) l) rest) long same
-      ∙ ap (fed r (held s (len + n) line')) (drop-drop n at bytes)
+-- ---- the next byte, where nothing is refused yet
 
--- ---- the byte at a place of the slice, where nothing is refused yet
-
-module _ {S : Type 0} (r : Reader S) (sound : Sound r) (s : S) (n : ℕ) (line : List ℕ) (goes : r.is_over s ≡ false) (bytes : List ℕ) (at : ℕ)
-    (h : at < length bytes) where
+module _ {S : Type 0} (r : Reader S) (sound : Sound r) (s : S) (n : ℕ) (line : List ℕ) (goes : r.is_over s ≡ false) (b : ℕ) (more : List ℕ) where
   abbrev d : Held S
   d = held s n line
 
-  next : (d' : Held S) → feed_byte r d (get_or bytes at 0) ≡ d' → fed r d (drop at bytes) ≡ fed r d' (drop (at + 1) bytes)
-  next d' e = ap (fed r d) (drop-cons bytes at 0 h) ∙ ap₂ (λ (x : Held S) (k : ℕ). fed r x (drop k bytes)) e (sym (add-one at))
+  next_refused : feed_byte r d b ≡ line_refused r d → fed r d (b ∷ more) ≡ line_refused r d
+  next_refused e = ap (λ (x : Held S). fed r x more) e ∙ over_stays r (line_refused r d) (sound.over s) more
 
-  next_refused : feed_byte r d (get_or bytes at 0) ≡ line_refused r d → fed r d (drop at bytes) ≡ line_refused r d
-  next_refused e = next (line_refused r d) e ∙ over_stays r (line_refused r d) (sound.over s) (drop (at + 1) bytes)
+  pub next_many : r.is_many s ≡ true → fed r d (b ∷ more) ≡ line_refused r d
+  next_many e = next_refused (byte_many r s n line goes e b)
 
-  pub next_many : r.is_many s ≡ true → fed r d (drop at bytes) ≡ line_refused r d
-  next_many e = next_refused (byte_many r s n line goes e (get_or bytes at 0))
+  pub next_long : r.is_many s ≡ false → (b ≡ lf → ⊥) → longest ≤ n → fed r d (b ∷ more) ≡ line_refused r d
+  next_long few ne long = next_refused (byte_long r s n line goes few b (ne_eqb b lf ne) long)
 
-  pub next_long : r.is_many s ≡ false → (get_or bytes at 0 ≡ lf → ⊥) → longest ≤ n → fed r d (drop at bytes) ≡ line_refused r d
-  next_long few ne long = next_refused (byte_long r s n line goes few (get_or bytes at 0) (ne_eqb (get_or bytes at 0) lf ne) long)
-
-  pub next_lf : r.is_many s ≡ false → get_or bytes at 0 ≡ lf → fed r d (drop at bytes) ≡ fed r (line_ends r d) (drop (at + 1) bytes)
-  next_lf few end = next (line_ends r d) (byte_lf r s n line goes few (get_or bytes at 0) (eq-eqb (get_or bytes at 0) lf end))
+  pub next_lf : r.is_many s ≡ false → b ≡ lf → fed r d (b ∷ more) ≡ fed r (line_ends r d) more
+  next_lf few end = ap (λ (x : Held S). fed r x more) (byte_lf r s n line goes few b (eq-eqb b lf end))

@@ -1,6 +1,6 @@
 pub mod ByteLaws
-pub mod CopyLaws
 pub mod Examples
+pub mod FeedLaws
 pub mod InputLaws
 pub mod LineLaws
 pub mod RunLaws

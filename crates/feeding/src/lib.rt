@@ -2,9 +2,9 @@
 // the reader (SCOPE, "Program, order lines and din lines"). Both tables are lent.
 #![tactic(auto)]
 
-ghost use Rattle.std.specs.Prelude.{◌≡◌, ◌≤◌, length};
+ghost use Rattle.std.specs.Prelude.{◌≡◌};
 ghost use Rattle.feeding.specs.Feeding.{start as Feeding·start, Feeds, Ends};
-ghost use Rattle.feeding.specs.Parts.{Copied};
+ghost use Rattle.feeding.specs.Parts.{Copied, EndsLine, RefusesLine};
 
 use lines::LONGEST;
 use reading::{LINES_MOST, Reading};
@@ -19,26 +19,17 @@ pub struct Feeding {
     pub line: [u8; LONGEST],
 }
 
-// Copies the bytes from `at` on that stand before the next LF into the line from `len` on, as many as it has room
-// for; gives how many.
-fn copy_line(bytes: &[u8], at: usize, line: &mut [u8], len: usize) -> usize
-    requires { (at ≤ length bytes.now) × (len ≤ length line.old) }
-    ensures { Copied bytes.now at line.old len result line.new }
+// Copies the bytes before the next LF to the front of the line, as many as it has room for; gives how many.
+fn copy_line(bytes: &[u8], line: &mut [u8]) -> usize
+    ensures { Copied bytes.now line.old result line.new }
 {
-    let mut most = bytes.len() - at;
-    if most > line.len() - len {
-        most = line.len() - len;
-    }
-    let mut i = 0usize;
-    while i < most {
-        let byte = bytes[at + i];
-        if byte == b'\n' {
-            return i;
-        }
-        line[len + i] = byte;
-        i += 1;
-    }
-    i
+    let most = bytes.len().min(line.len());
+    let n = bytes[..most]
+        .iter()
+        .position(|b| *b == b'\n')
+        .unwrap_or(most);
+    line[..n].copy_from_slice(&bytes[..n]);
+    n
 }
 
 impl Feeding {
@@ -57,81 +48,67 @@ impl Feeding {
 
     // More bytes of the input. (`step` and this have one call each in the program, so that both are made part of it:
     // with two, a line costs 60 instructions more.)
-    pub fn feed(self, bytes: &[u8], stacks: &mut [u32], counts: &mut [u32]) -> Feeding
-        ensures { Feeds self bytes.now stacks.old counts.old
-            result stacks.new counts.new }
+    pub fn feed(&mut self, bytes: &[u8], stacks: &mut [u32], counts: &mut [u32])
+        ensures { Feeds self.old bytes.now stacks.old counts.old
+            self.new stacks.new counts.new }
     {
-        let answer = self.answer;
-        if answer != 0 {
-            return self;
+        if self.answer != 0 {
+            return;
         }
-        let mut reading = self.reading;
-        let mut line = self.line;
-        let mut len = self.len as usize;
-        let mut at = 0usize;
-        while at < bytes.len() {
-            let lines = reading.lines;
-            if lines >= LINES_MOST {
-                let step = reading.long_line();
-                let next = step.next;
-                return Feeding {
-                    reading: next,
-                    answer: step.answer,
-                    len: len as u8,
-                    line,
-                };
+        let mut rest = bytes;
+        while !rest.is_empty() {
+            if self.reading.lines >= LINES_MOST {
+                return self.refuse_line();
             }
-            let n = copy_line(bytes, at, &mut line, len);
-            len += n;
-            at += n;
-            if at < bytes.len() {
-                let byte = bytes[at];
-                if byte != b'\n' {
-                    let step = reading.long_line();
-                    let next = step.next;
-                    return Feeding {
-                        reading: next,
-                        answer: step.answer,
-                        len: len as u8,
-                        line,
-                    };
-                }
-                let step = reading.step(&line[..len], stacks, counts);
-                reading = step.next;
-                if step.answer != 0 {
-                    return Feeding {
-                        reading,
-                        answer: step.answer,
-                        len: 0,
-                        line,
-                    };
-                }
-                len = 0;
-                at += 1;
+            let len = self.len as usize;
+            let n = copy_line(rest, &mut self.line[len..]);
+            self.len = (len + n) as u8;
+            // Where no byte comes next, the slice ends within the line.
+            let Some((byte, more)) = rest[n..].split_first() else {
+                return;
+            };
+            if *byte != b'\n' {
+                return self.refuse_line();
             }
-        }
-        Feeding {
-            reading,
-            answer: 0,
-            len: len as u8,
-            line,
+            self.end_line(stacks, counts);
+            if self.answer != 0 {
+                return;
+            }
+            rest = more;
         }
     }
 
-    // No line comes any more.
-    pub fn ended(self) -> Feeding
-        ensures { Ends self result }
+    // The LF of the line that has begun.
+    fn end_line(&mut self, stacks: &mut [u32], counts: &mut [u32])
+        ensures { EndsLine self.old stacks.old counts.old self.new stacks.new counts.new }
     {
-        let answer = self.answer;
-        if answer != 0 {
-            return self;
+        let len = self.len;
+        let step = self
+            .reading
+            .step(&self.line[..len as usize], stacks, counts);
+        self.reading = step.next;
+        self.answer = step.answer;
+        self.len = 0;
+    }
+
+    // It is refused before it ends: it is one too many, or too long.
+    fn refuse_line(&mut self)
+        ensures { RefusesLine self.old self.new }
+    {
+        let step = self.reading.long_line();
+        self.reading = step.next;
+        self.answer = step.answer;
+    }
+
+    // No line comes any more.
+    pub fn ended(&mut self)
+        ensures { Ends self.old self.new }
+    {
+        if self.answer != 0 {
+            return;
         }
-        let reading = self.reading;
-        let step = reading.ended();
-        let next = step.next;
-        let mut last = self;
-        last.reading = next;
-        last.answer = step.answer;
-        last
+        let end = self.reading.ended();
+        self.reading = end.next;
+        self.answer = end.answer;
     }
 }

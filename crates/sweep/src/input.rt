@@ -48,9 +48,10 @@ pub(crate) fn run<R: Read>(
     loop {
         let begun = feeding.len != 0;
         let came = read_more(input, chunk, begun)?;
-        feeding = feeding.feed(&chunk[..came.len], stacks, counts);
+        feeding.feed(&chunk[..came.len], stacks, counts);
         if came.last {
-            return Ok(feeding.ended());
+            feeding.ended();
+            return Ok(feeding);
         }
         if feeding.answer != 0 {
             return Ok(feeding);
