@@ -3,11 +3,13 @@
 #![tactic(auto)]
 
 ghost use Rattle.std.specs.Prelude.{◌≡◌};
+ghost use Rattle.units.specs.Refusals.{answer_of};
 ghost use Rattle.feeding.specs.Feeding.{start as Feeding·start, Feeds, Ends};
 ghost use Rattle.feeding.specs.Parts.{Copied, EndsLine, RefusesLine};
 
 use lines::LONGEST;
 use reading::{LINES_MOST, Reading};
+use units::Refusal;
 
 // How far the input is read, and the line that has begun: its bytes are the first `len` of the line buffer.
 #[derive(Clone, Copy)]
@@ -30,6 +32,16 @@ fn copy_line(bytes: &[u8], line: &mut [u8]) -> usize
         .unwrap_or(most);
     line[..n].copy_from_slice(&bytes[..n]);
     n
+}
+
+// The answer number: 0 where nothing is refused.
+fn number(answer: Result<(), Refusal>) -> u32
+    ensures { result ≡ answer_of answer }
+{
+    match answer {
+        Ok(()) => 0,
+        Err(refusal) => u32::from(refusal),
+    }
 }
 
 impl Feeding {
@@ -86,8 +98,7 @@ impl Feeding {
         let step = self
             .reading
             .step(&self.line[..len as usize], stacks, counts);
-        self.reading = step.next;
-        self.answer = step.answer;
+        self.answer = number(step);
         self.len = 0;
     }
 
@@ -95,9 +106,7 @@ impl Feeding {
     fn refuse_line(&mut self)
         ensures { RefusesLine self.old self.new }
     {
-        let step = self.reading.long_line();
-        self.reading = step.next;
-        self.answer = step.answer;
+        self.answer = u32::from(self.reading.long_line());
     }
 
     // No line comes any more.
@@ -107,8 +116,6 @@ impl Feeding {
         if self.answer != 0 {
             return;
         }
-        let end = self.reading.ended();
-        self.reading = end.next;
-        self.answer = end.answer;
+        self.answer = number(self.reading.ended());
     }
 }

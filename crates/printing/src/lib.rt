@@ -87,18 +87,17 @@ pub fn head_lines(refs: u32, tally: Tally, out: &mut [u8]) -> usize
 }
 
 // The line of one cache; nothing where the question is refused.
-pub fn cache_line(cache: Cache, opened: Opened, counts: &[u32], out: &mut [u8]) -> usize
-    ensures { Prints (line_at opened counts.now cache) out.old result out.new }
+pub fn cache_line(cache: Cache, opened: &Opened, counts: &[u32], out: &mut [u8]) -> usize
+    ensures { Prints (line_at opened.now counts.now cache) out.old result out.new }
 {
     if out.len() < LINE_MOST {
         return 0;
     }
-    let Cache { b, s, w } = cache;
-    let counted = opened.misses(counts, b, s, w);
-    if counted.answer != 0 {
+    let Ok(misses) = opened.misses(counts, cache) else {
         return 0;
-    }
-    let numbers = [b.0 as u64, s as u64, w as u64, counted.misses as u64];
+    };
+    let Cache { b, s, w } = cache;
+    let numbers = [b.0 as u64, s as u64, w as u64, misses as u64];
     fill(out, b"b=# s=# w=# misses=#\n", &numbers)
 }
 

@@ -11,7 +11,7 @@ pub(crate) fn table<W: Write>(output: &mut W, reading: Reading, counts: &[u32]) 
     let head = head_lines(opened.taken, reading.tally, &mut out);
     output.write_all(&out[..head])?;
     for cache in Walk::over(opened.order) {
-        let n = cache_line(cache, opened, counts, &mut out);
+        let n = cache_line(cache, &opened, counts, &mut out);
         output.write_all(&out[..n])?;
     }
     Ok(())
