@@ -37,6 +37,7 @@ pub(crate) fn number_after(line: &[u8], name: &[u8]) -> Option<u32>
 }
 
 // The line is these bytes and no more.
+#[tactic(auto, using(crate::proofs::OrderLaws::whole_by_bytes))]
 pub(crate) fn is_whole(line: &[u8], bytes: &[u8]) -> bool
     ensures { result ≡ is_whole bytes.now line.now }
 {

@@ -46,7 +46,7 @@ goes_on c =
     let d = c.hex_digits-address.result in
     let label = c.in-Some.label.now in
     let at = (goal.at.After-hex_digits-address c).After-blanks-start in
-    let from = line_address line label c.in-Some.rest.now c.in-Some.ensures.cases.0 c.if-line-gt-LONGEST.false (right at) n c.blanks-start.ensures c.if-start-eq1.false
+    let from = line_address line label c.in-Some.rest.now c.in-Some.ensures.cases.0 c.if-line-gt-LONGEST.false (right at) n c.blanks-start.ensures (λ z. omega arith)
     (omega (arith, within at)) in
     let column : 1 + n + 1 + d.count ≡ 1 + n + d.count + 1 = omega arith in
     from ∙ (digits c).goes_on label (1 + n + 1) ∙ ap₂ (in_address label d.count d.value) column (rw drop-drop refl)
@@ -71,7 +71,7 @@ returns-then-start-eq1 c =
 pub returns-then-start-line : goal.returns-then-start-line
 returns-then-start-line c =
     let at = (goal.at.returns-then-start-line c).After-blanks-start in
-    trace_says (line_no_address _ _ _ c.in-Some.ensures.cases.0 c.if-line-gt-LONGEST.false (right at) _ c.blanks-start.ensures c.if-start-eq1.false c.if-start-line.true
+    trace_says (line_no_address _ _ _ c.in-Some.ensures.cases.0 c.if-line-gt-LONGEST.false (right at) _ c.blanks-start.ensures (λ z. omega arith) c.if-start-line.true
     ∙ sym c.bad_at-then-start-line.ensures)
 
 pub returns-then-not-is_blank : goal.returns-then-not-is_blank
