@@ -29,11 +29,6 @@ over_here : (v : Opened) (st ct : List ℕ) (x : ℕ → ℕ) {n : ℕ} {t : Boo
     → over_all v st ct x ≡ t
 over_here v st ct x f on tops e = sym (top_over_lem v st x (length ct) f on ct) ∙ over_of v ct tops e
 
-pub tops_over-requires : goal.tops_over-requires
-tops_over-requires c =
-    let f = c.requires.0 in
-    rw (ap₂ ◌*◌ c.sizes.ensures c.rows.ensures) (f.wide, omega (arith, f.numbers))
-
 -- ---- the returns
 pub returns-then-tops_over : goal.returns-then-tops_over
 returns-then-tops_over c = λ st a f on.
