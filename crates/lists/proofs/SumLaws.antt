@@ -1,9 +1,14 @@
 -- Laws of `total` and `sum_to`.
 -- Assumes nothing.
-use Prim.Native.Nat.{ℕ, zero, suc, ◌+◌, ◌<◌}
-use mathlib.Core.Path.{◌≡◌, refl, ap, ap₂}
+use Prim.Native.Nat.{ℕ, zero, suc, ◌+◌, ◌≤◌, ◌<◌}
+use mathlib.Core.Path.{◌≡◌, refl, sym, ap, ap₂, ◌∙◌}
 use mathlib.Core.List.{List, [], ◌∷◌, ◌++◌, map}
+use native.Mathlib.Numerals.{add-one}
 use native.Mathlib.Omega.{arith}
+use lib.ListN.{length, take, drop, get_or, length-drop}
+use lib.Seq.{get_or-drop}
+use Rattle.std.specs.List.{sum}
+use Rattle.std.proofs.lemmas.List.Sums.{sum_by_more}
 use Rattle.lists.specs.Runs.{answers}
 use Rattle.lists.specs.Sums.{total, sum_to}
 
@@ -38,3 +43,11 @@ total_answers step out f g h s (e ∷ es) = ap₂ ◌+◌ (h s e) (total_answers
 pub sum_to_same : (f g : ℕ → ℕ) (n : ℕ) → ((k : ℕ) → k < n → f k ≡ g k) → sum_to f n ≡ sum_to g n
 sum_to_same f g zero h = refl
 sum_to_same f g (suc n) h = ap₂ ◌+◌ (sum_to_same f g n (λ k l. h k (omega arith))) (h n (omega arith))
+
+-- the sum of a part of a table, told by its places
+pub sum_part : (base n : ℕ) (l : List ℕ) → base + n ≤ length l → sum (take n (drop base l)) ≡ sum_to (λ (d : ℕ). get_or l (base + d) 0) n
+sum_part base zero l h = refl
+sum_part base (suc n) l h =
+    ap (λ (k : ℕ). sum (take k (drop base l))) (sym (add-one n))
+    ∙ sum_by_more (λ (c : ℕ). c) (drop base l) n 0 (rw length-drop (omega arith))
+    ∙ ap₂ ◌+◌ (sum_part base n l (omega arith)) (get_or-drop base l n 0)

@@ -1,6 +1,5 @@
 // The counts: raising them, and what has to be seen before any is raised.
-ghost use Rattle.std.specs.Prelude.{◌≡◌, false, ℕ, ◌+◌, ◌*◌, ◌≤◌, ◌<◌, leb, length, get_or};
-ghost use Rattle.lists.specs.Sums.{sum_to};
+ghost use Rattle.std.specs.Prelude.{◌≡◌, false, ℕ, ◌+◌, ◌*◌, ◌≤◌, ◌<◌, leb, length, get_or, sum};
 ghost use Rattle.lists.specs.Tables.{Bumped, over_row, raised_rows};
 ghost use Rattle.lists.specs.Tests.{any_to};
 ghost use Rattle.taking.specs.Parts.{count_most, Rows, Tabled, Raisable, depth_in, over_by, raised_by};
@@ -120,16 +119,10 @@ pub(crate) fn raise_tops(counts: &mut [u32], ways: usize, rows: usize)
     }
 }
 
-// The sum of the n counts from `at` on.
-pub(crate) fn summed(counts: &[u32], at: usize, n: usize) -> u64
-    requires { (at + n ≤ length counts.now) × (n ≤ 16) }
-    ensures { result ≡ sum_to (λ (d : ℕ). get_or counts.now (at + d) 0) n }
+// The sum of at most 16 counts.
+pub(crate) fn summed(counts: &[u32]) -> u64
+    requires { length counts.now ≤ 16 }
+    ensures { result ≡ sum counts.now }
 {
-    let mut sum = 0u64;
-    let mut d = 0usize;
-    while d < n {
-        sum += counts[at + d] as u64;
-        d += 1;
-    }
-    sum
+    counts.iter().map(|count| u64::from(*count)).sum()
 }

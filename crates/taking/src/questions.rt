@@ -17,7 +17,7 @@ impl Opened {
         self.unasked(counts.len(), cache)?;
         let k = (cache.b.0 - self.order.bmin.0) as usize;
         let at = (k * self.order.rows() + cache.s as usize) * self.order.ways as usize;
-        let hits = summed(counts, at, cache.w as usize);
+        let hits = summed(&counts[at..at + cache.w as usize]);
         let misses = u64::from(self.taken)
             .checked_sub(hits)
             .ok_or(Refusal::CountOver)?;

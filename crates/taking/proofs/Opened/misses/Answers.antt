@@ -2,11 +2,14 @@
 use Prim.Native.Nat.{ℕ, ◌+◌, ◌-◌, ◌*◌, ◌≤◌, ◌<◌}
 use mathlib.Core.Path.{◌≡◌, sym, ap, ◌∙◌}
 use native.Mathlib.Omega.{arith}
-use lib.ListN.{length, get_or}
+use native.Mathlib.Nat.{add-sub_cancel_left}
+use lib.ListN.{length, get_or, length-take}
+use Rattle.lists.proofs.SumLaws.{sum_part}
 use Rattle.std.specs.Prelude.{Option, None, Result, Err}
 use Rattle.std.specs.Option.{ok_or}
 use Rattle.std.proofs.lemmas.Result.{err_from_is_err_and}
 use Rattle.lists.specs.Sums.{sum_to}
+use Rattle.order.specs.Limits.{rows}
 use Rattle.order.proofs.LimitLaws.{needs_small}
 use Rattle.units.specs.declared.refusal.Refusal.{Refusal}
 use Rattle.units.specs.declared.refusal.Refusal.TheVariants.{CountOver}
@@ -45,9 +48,12 @@ hits : (c : After-summed-hits) → let a = c.args in c.summed-hits.result ≡ hi
 hits c =
     let a = c.args in
     let o = a.self.now.order in
-    c.summed-hits.ensures
-    ∙ ap (λ (n : ℕ). sum_to (λ (d : ℕ). get_or a.counts.now (((a.cache.b.0 - o.bmin.0) * n + a.cache.s) * o.ways + d) 0) a.cache.w) c.rows.ensures
-    ∙ sym (hits_at_places a.self.now (length a.counts.now) a.cache.b.0 a.cache.s a.cache.w (asked_of a.self.now _ _ _ _ (passed c)) a.counts.now)
+    let n = length a.counts.now in
+    let q = asked_of a.self.now n _ _ _ (passed c) in
+    let fit = places_fit a.self.now n a.cache.b.0 a.cache.s a.cache.w q in
+    rw (c.rows.ensures, add-sub_cancel_left) at c.summed-hits.ensures
+    ∙ sum_part (((a.cache.b.0 - o.bmin.0) * rows o + a.cache.s) * o.ways) a.cache.w a.counts.now (omega (arith, fit.1, q.wide))
+    ∙ sym (hits_at_places a.self.now n a.cache.b.0 a.cache.s a.cache.w q a.counts.now)
 
 pub overflow_sub-k : goal.overflow_sub-k
 overflow_sub-k c =
@@ -63,10 +69,19 @@ overflow_add-at c = omega (arith, inside (goal.at.overflow_add-at c).After-rows)
 pub overflow_mul-at-2 : goal.overflow_mul-at-2
 overflow_mul-at-2 c = omega (arith, inside (goal.at.overflow_mul-at-2 c).After-rows)
 
+pub overflow_add-at-2 : goal.overflow_add-at-2
+overflow_add-at-2 c = omega (arith, inside (goal.at.overflow_add-at-2 c).After-rows)
+
+pub offset_bounds-counts-at : goal.offset_bounds-counts-at
+offset_bounds-counts-at c = omega (arith, inside (goal.at.offset_bounds-counts-at c).After-rows)
+
+pub slice_bounds-summed-end : goal.slice_bounds-summed-end
+slice_bounds-summed-end c = omega (arith, inside (goal.at.slice_bounds-summed-end c).After-rows)
+
 pub summed-hits-requires : goal.summed-hits-requires
 summed-hits-requires c =
     let at = (goal.at.summed-hits-requires c).After-rows in
-    ((inside at).1, omega (arith, (asked at).there, (asked at).numbers))
+    rw add-sub_cancel_left (simp length-take (omega (arith, (asked at).there, (asked at).numbers)))
 
 pub returns-in_err-misses : goal.returns-in_err-misses
 returns-in_err-misses c =
