@@ -5,14 +5,14 @@
 
 ghost use Rattle.std.specs.Prelude.{ℕ, ◌≡◌, List};
 ghost use Rattle.cache.specs.Cache.{ref, flush};
-ghost use Rattle.units.specs.Refusals.{answer_of};
 ghost use Rattle.strip.specs.Strip.{Strips};
 ghost use Rattle.capi.specs.Boundary.{numbers_of, lent, Says, CallsOpen, CallsTake, CallsMisses, CallsRatios};
 
 use order::{Cache, Order};
 use strip::strip;
 use taking::{Opened, Ratios};
-use units::{Addr, ByteExp, Refusal};
+use units::refusal::answer_of;
+use units::{Addr, ByteExp};
 
 // How many numbers a state has.
 pub const STATE_NUMBERS: usize = 15;
@@ -41,7 +41,7 @@ pub extern "C" fn kkaeduron_open(
     let order = Order::new(ByteExp(bmin), ByteExp(bmax), smax, ways, room, refs);
     let opened = Opened::open(order.unwrap_or(Order::none()), stacks, counts);
     *state = numbers_of(opened.unwrap_or(Opened::none()));
-    number(&opened)
+    answer_of(&opened)
 }
 
 // Takes a reference, and puts the state that is handed back in the place of the one that was handed in.
@@ -59,7 +59,7 @@ pub extern "C" fn kkaeduron_take(
     let mut opened = state_from(*state);
     let answer = opened.take_ref(stacks, counts, Addr(addr));
     *state = numbers_of(opened);
-    number(&answer)
+    answer_of(&answer)
 }
 
 // Empties every stack, and puts the state that is handed back in the place of the one that was handed in.
@@ -72,7 +72,7 @@ pub extern "C" fn kkaeduron_flush(state: &mut [u32; STATE_NUMBERS], stacks: &mut
     let mut emptied = state_from(*state);
     let answer = emptied.flush(stacks);
     *state = numbers_of(emptied);
-    number(&answer)
+    answer_of(&answer)
 }
 
 // Puts the misses of the cache (b, s, w) into a number.
@@ -95,7 +95,7 @@ pub extern "C" fn kkaeduron_misses(
     };
     let counted = opened.misses(counts, cache);
     *misses = counted.unwrap_or(0);
-    number(&counted)
+    answer_of(&counted)
 }
 
 // Puts the two ratios of the cache (b, s, w), the miss ratio first, into two numbers.
@@ -119,7 +119,7 @@ pub extern "C" fn kkaeduron_ratios(
     let rated = opened.ratios(counts, cache);
     let Ratios { miss, traffic } = rated.unwrap_or(Ratios::none());
     *ratios = [miss, traffic];
-    number(&rated)
+    answer_of(&rated)
 }
 
 // Strips a list of addresses, and puts how many were kept into a number.
@@ -137,17 +137,7 @@ pub extern "C" fn kkaeduron_strip(
 {
     let stripped = strip(list, ByteExp(b), s, filter, out);
     *kept = stripped.unwrap_or(0);
-    number(&stripped)
-}
-
-// The number of an answer: 0, or that of the refusal.
-fn number<T>(answer: &Result<T, Refusal>) -> u32
-    ensures { result ≡ answer_of answer.now }
-{
-    match answer {
-        Ok(_) => 0,
-        Err(refusal) => u32::from(*refusal),
-    }
+    answer_of(&stripped)
 }
 
 // The opened order that the numbers say. Neither this nor its reverse is a `From`: that would want a type

@@ -7,5 +7,5 @@ use Rattle.capi.proofs.kkaeduron_flush.Goals as goal
 pub returns : goal.returns
 returns c =
     let a = c.args in
-    λ ct. rw c.number.ensures
+    λ ct. rw c.answer_of.ensures
     (take_called (lent a.state.now a.stacks.now ct) flush c.state_from-emptied.ensures (c.flush-answer.ensures ct) c.numbers_of.ensures)

@@ -7,6 +7,6 @@ use Rattle.capi.proofs.kkaeduron_take.Goals as goal
 pub returns : goal.returns
 returns c =
     let a = c.args in
-    rw c.number.ensures
+    rw c.answer_of.ensures
     (take_called (lent a.state.now a.stacks.now a.counts.now) (ref a.addr) c.state_from-opened.ensures c.take_ref-answer.ensures
     c.numbers_of.ensures)
