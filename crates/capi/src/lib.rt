@@ -39,9 +39,9 @@ pub extern "C" fn kkaeduron_open(
         result (lent state.new stacks.new counts.new) }
 {
     let order = Order::new(ByteExp(bmin), ByteExp(bmax), smax, ways, room, refs);
-    let opened = Opened::open(order.unwrap_or(Order::none()), stacks, counts);
-    *state = numbers_of(opened.unwrap_or(Opened::none()));
-    answer_of(&opened)
+    let reply = Opened::open(order.unwrap_or(Order::none()), stacks, counts);
+    *state = numbers_of(reply.state);
+    answer_of(&reply.answer)
 }
 
 // Takes a reference, and puts the state that is handed back in the place of the one that was handed in.
@@ -56,10 +56,10 @@ pub extern "C" fn kkaeduron_take(
         (lent state.old stacks.old counts.old) (ref addr)
         result (lent state.new stacks.new counts.new) }
 {
-    let mut opened = state_from(*state);
-    let answer = opened.take_ref(stacks, counts, Addr(addr));
-    *state = numbers_of(opened);
-    answer_of(&answer)
+    let handed = state_from(*state);
+    let reply = handed.take_ref(stacks, counts, Addr(addr));
+    *state = numbers_of(reply.state);
+    answer_of(&reply.answer)
 }
 
 // Empties every stack, and puts the state that is handed back in the place of the one that was handed in.
@@ -69,10 +69,10 @@ pub extern "C" fn kkaeduron_flush(state: &mut [u32; STATE_NUMBERS], stacks: &mut
         (lent state.old stacks.old ct) flush
         result (lent state.new stacks.new ct) }
 {
-    let mut emptied = state_from(*state);
-    let answer = emptied.flush(stacks);
-    *state = numbers_of(emptied);
-    answer_of(&answer)
+    let handed = state_from(*state);
+    let reply = handed.flush(stacks);
+    *state = numbers_of(reply.state);
+    answer_of(&reply.answer)
 }
 
 // Puts the misses of the cache (b, s, w) into a number.
@@ -87,15 +87,15 @@ pub extern "C" fn kkaeduron_misses(
 ) -> u32
     ensures { CallsMisses state.now counts.now b s w result misses.new }
 {
-    let opened = state_from(*state);
+    let handed = state_from(*state);
     let cache = Cache {
         b: ByteExp(b),
         s,
         w,
     };
-    let counted = opened.misses(counts, cache);
-    *misses = counted.unwrap_or(0);
-    answer_of(&counted)
+    let counted = handed.misses(counts, cache);
+    *misses = counted.answer.unwrap_or(0);
+    answer_of(&counted.answer)
 }
 
 // Puts the two ratios of the cache (b, s, w), the miss ratio first, into two numbers.
@@ -110,16 +110,16 @@ pub extern "C" fn kkaeduron_ratios(
 ) -> u32
     ensures { CallsRatios state.now counts.now b s w result ratios.new }
 {
-    let opened = state_from(*state);
+    let handed = state_from(*state);
     let cache = Cache {
         b: ByteExp(b),
         s,
         w,
     };
-    let rated = opened.ratios(counts, cache);
-    let Ratios { miss, traffic } = rated.unwrap_or(Ratios::none());
+    let rated = handed.ratios(counts, cache);
+    let Ratios { miss, traffic } = rated.answer.unwrap_or(Ratios::none());
     *ratios = [miss, traffic];
-    answer_of(&rated)
+    answer_of(&rated.answer)
 }
 
 // Strips a list of addresses, and puts how many were kept into a number.

@@ -75,7 +75,9 @@ impl Reading {
         }
         let [bmin, bmax, smax, ways, room, refs] = self.head.numbers;
         let order = Order::new(ByteExp(bmin), ByteExp(bmax), smax, ways, room, refs)?;
-        self.opened = Opened::open(order, stacks, counts)?;
+        let reply = Opened::open(order, stacks, counts);
+        reply.answer?;
+        self.opened = reply.state;
         self.stage = stage::TRACE;
         Ok(())
     }

@@ -22,14 +22,18 @@ impl Reading {
         match trace_line(line) {
             Ok(TraceLine::Ref(kind, a)) => {
                 if self.head.kinds.counts(kind) {
-                    self.opened.take_ref(stacks, counts, a)
+                    let reply = self.opened.take_ref(stacks, counts, a);
+                    self.opened = reply.state;
+                    reply.answer
                 } else {
                     self.tally.skipped = self.tally.skipped.saturating_add(1);
                     Ok(())
                 }
             }
             Ok(TraceLine::Escape) => {
-                self.opened.flush(stacks)?;
+                let reply = self.opened.flush(stacks);
+                self.opened = reply.state;
+                reply.answer?;
                 self.tally.flushes = self.tally.flushes.saturating_add(1);
                 Ok(())
             }

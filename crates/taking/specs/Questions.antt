@@ -10,6 +10,7 @@ use Rattle.sizes.specs.Size.{hits_in}
 use Rattle.taking.specs.Places.{counts_at}
 use Rattle.taking.specs.Taking.{is_foreign}
 use Rattle.taking.specs.declared.Opened.{Opened}
+use Rattle.taking.specs.declared.Reply.{Reply}
 
 -- how often a cache missed, beside the answer number: 0 where that is not 0. The state is as it was handed in
 pub record Counted : Type 0 where
@@ -17,9 +18,13 @@ pub record Counted : Type 0 where
   pub answer : ℕ
   pub misses : ℕ
 
--- what a call hands back that changes nothing of v
-abbrev pub counted : Opened → Result ℕ Refusal → Counted
-counted v r = record { state = v; answer = answer_of r; misses = result_unwrap_or r 0 }
+-- a state beside an answer
+abbrev pub replied : {A : Type 0} → Opened → Result A Refusal → Reply A
+replied v r = record { state = v; answer = r }
+
+-- what is handed back, as the document has it: 0 or the number of a refusal, and zero misses beside one
+abbrev pub counted : Reply ℕ → Counted
+counted r = record { state = r.state; answer = answer_of r.answer; misses = result_unwrap_or r.answer 0 }
 
 -- the order has (b, s, w): in each pair the first is at most the second
 abbrev pub asked : Order → ℕ → ℕ → ℕ → List (ℕ × ℕ)

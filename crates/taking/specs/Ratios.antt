@@ -1,14 +1,14 @@
 -- The two ratios, handed back together (SCOPE, "Questions"): refused as misses are, then with 9 where no references are taken.
 -- Assumes nothing.
-use Rattle.std.specs.Prelude.{ℕ, ◌*◌, ◌^◌, false, cond, not, Result, List, [], ◌∷◌, eqb, Float, pos}
+use Rattle.std.specs.Prelude.{ℕ, ◌*◌, ◌^◌, false, cond, not, List, [], ◌∷◌, eqb, Float, pos}
 use Rattle.std.specs.Result.{result_unwrap_or}
 use Rattle.std.specs.Float.{fin, binary64}
 use Rattle.std.specs.Float.Ieee.{round}
 use Rattle.lists.specs.Tests.{first_of}
 use Rattle.units.specs.Refusals.{no_references, answer_of}
-use Rattle.units.specs.declared.refusal.Refusal.{Refusal}
 use Rattle.taking.specs.Questions.{Counted, misses_of}
 use Rattle.taking.specs.declared.Opened.{Opened}
+use Rattle.taking.specs.declared.Reply.{Reply}
 use Rattle.taking.specs.declared.Ratios.{Ratios}
 
 -- the binary64 number nearest to the exact fraction m / n, ties to even: one rounding
@@ -29,9 +29,9 @@ pub record Rated : Type 0 where
   pub answer : ℕ
   pub ratios : Ratios
 
--- what a call hands back that changes nothing of v
-abbrev pub rated_as : Opened → Result Ratios Refusal → Rated
-rated_as v r = record { state = v; answer = answer_of r; ratios = result_unwrap_or r no_ratios }
+-- what is handed back, as the document has it: 0 or the number of a refusal, and two zeros beside one
+abbrev pub rated_as : Reply Ratios → Rated
+rated_as r = record { state = r.state; answer = answer_of r.answer; ratios = result_unwrap_or r.answer no_ratios }
 
 -- refused as misses, whose answer is c, then with 9
 abbrev pub ratios_answer : Counted → ℕ → ℕ

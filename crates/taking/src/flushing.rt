@@ -6,12 +6,22 @@ ghost use Rattle.taking.specs.World.{world};
 ghost use Rattle.taking.specs.Taking.{Takes};
 ghost use Rattle.taking.specs.Parts.{Stacked, Emptied};
 
-use crate::Opened;
+use crate::{Opened, Reply};
 use units::Refusal;
 
 impl Opened {
     // Empties every stack: the used entries become zero and the used lengths 0. Counts and references taken stay.
-    pub fn flush(&mut self, stacks: &mut [u32]) -> Result<(), Refusal>
+    pub fn flush(mut self, stacks: &mut [u32]) -> Reply<()>
+        ensures { (ct : List ℕ) → Takes (world self stacks.old ct) Given·flush (answer_of result.answer) (world result.state stacks.new ct) }
+    {
+        let answer = self.try_flush(stacks);
+        Reply {
+            state: self,
+            answer,
+        }
+    }
+
+    fn try_flush(&mut self, stacks: &mut [u32]) -> Result<(), Refusal>
         ensures { (ct : List ℕ) → Takes (world self.old stacks.old ct) Given·flush (answer_of result) (world self.new stacks.new ct) }
     {
         self.unflushed(stacks.len())?;

@@ -1,8 +1,9 @@
-// The opened order, and the ratios that it is asked for (SCOPE, "The order's numbers" and "Questions"). Its functions
+// The opened order, and what its functions hand back (SCOPE, "The order's numbers" and "Questions"). Its functions
 // stand in opening.rt, references.rt, flushing.rt, questions.rt and refusing.rt. Both tables are lent: slices of 32-bit numbers.
 #![tactic(auto)]
 
 use order::Order;
+use units::Refusal;
 
 mod counting;
 mod flushing;
@@ -19,6 +20,13 @@ pub struct Opened {
     pub order: Order,
     pub taken: u32,
     pub used: [u32; Order::SIZES_MOST],
+}
+
+// The state handed back, beside the answer (SCOPE, F3).
+#[derive(Clone, Copy, Debug)]
+pub struct Reply<T> {
+    pub state: Opened,
+    pub answer: Result<T, Refusal>,
 }
 
 // The miss ratio and the traffic ratio of a cache.

@@ -1,18 +1,27 @@
-// The questions: misses, and the two ratios (SCOPE, "Questions"). They change nothing.
+// The questions: misses, and the two ratios (SCOPE, "Questions"). The state is handed back as it was handed in.
 ghost use Rattle.std.specs.Prelude.{◌≡◌};
-ghost use Rattle.taking.specs.Questions.{has as Questions·has, counted, misses_of};
+ghost use Rattle.taking.specs.Questions.{has as Questions·has, counted, replied, misses_of};
 ghost use Rattle.taking.specs.Ratios.{rated_as, ratios_of};
 
 use crate::counting::summed;
 use crate::rating::rated;
-use crate::{Opened, Ratios};
+use crate::{Opened, Ratios, Reply};
 use order::Cache;
 use units::Refusal;
 
 impl Opened {
     // The misses of a cache: the references taken less the counts at depths 0 to w - 1.
-    pub fn misses(&self, counts: &[u32], cache: Cache) -> Result<u32, Refusal>
-        ensures { counted self.now result ≡ misses_of self.now counts.now cache.b.0 cache.s cache.w }
+    pub fn misses(self, counts: &[u32], cache: Cache) -> Reply<u32>
+        ensures { counted result ≡ misses_of self counts.now cache.b.0 cache.s cache.w }
+    {
+        Reply {
+            state: self,
+            answer: self.try_misses(counts, cache),
+        }
+    }
+
+    fn try_misses(&self, counts: &[u32], cache: Cache) -> Result<u32, Refusal>
+        ensures { counted (replied self.now result) ≡ misses_of self.now counts.now cache.b.0 cache.s cache.w }
     {
         self.unasked(counts.len(), cache)?;
         let k = (cache.b.0 - self.order.bmin.0) as usize;
@@ -25,10 +34,19 @@ impl Opened {
     }
 
     // The two ratios of a cache, handed back together.
-    pub fn ratios(&self, counts: &[u32], cache: Cache) -> Result<Ratios, Refusal>
-        ensures { rated_as self.now result ≡ ratios_of self.now counts.now cache.b.0 cache.s cache.w }
+    pub fn ratios(self, counts: &[u32], cache: Cache) -> Reply<Ratios>
+        ensures { rated_as result ≡ ratios_of self counts.now cache.b.0 cache.s cache.w }
     {
-        let misses = self.misses(counts, cache)?;
+        Reply {
+            state: self,
+            answer: self.try_ratios(counts, cache),
+        }
+    }
+
+    fn try_ratios(&self, counts: &[u32], cache: Cache) -> Result<Ratios, Refusal>
+        ensures { rated_as (replied self.now result) ≡ ratios_of self.now counts.now cache.b.0 cache.s cache.w }
+    {
+        let misses = self.try_misses(counts, cache)?;
         if self.taken == 0 {
             return Err(Refusal::NoReferences);
         }
@@ -37,8 +55,8 @@ impl Opened {
 
     // The order has the cache.
     #[tactic(auto, unfolding(lists::specs::Tests::all_le))]
-    pub fn has(&self, cache: Cache) -> bool
-        ensures { result ≡ Questions·has self.now.order cache.b.0 cache.s cache.w }
+    pub fn has(self, cache: Cache) -> bool
+        ensures { result ≡ Questions·has self.order cache.b.0 cache.s cache.w }
     {
         let order = self.order;
         (order.bmin.0..=order.bmax.0).contains(&cache.b.0)

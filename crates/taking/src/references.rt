@@ -8,8 +8,8 @@ ghost use Rattle.taking.specs.World.{world};
 ghost use Rattle.taking.specs.Taking.{Takes};
 ghost use Rattle.taking.specs.Parts.{count_most, Fit, Blank, wider_by, on_top, Walked, Looked};
 
-use crate::Opened;
 use crate::counting::{bump, raise_tops, tops_over};
+use crate::{Opened, Reply};
 use order::Order;
 use units::{Addr, BlockNo, Refusal};
 
@@ -18,12 +18,18 @@ const DEPTHS: usize = Order::SIZES_MOST * Order::ROWS_MOST;
 
 impl Opened {
     // Takes a reference. Most find their block on top of every stack: there each depth is 0 and nothing moves.
-    pub fn take_ref(
-        &mut self,
-        stacks: &mut [u32],
-        counts: &mut [u32],
-        a: Addr,
-    ) -> Result<(), Refusal>
+    pub fn take_ref(mut self, stacks: &mut [u32], counts: &mut [u32], a: Addr) -> Reply<()>
+        ensures { Takes (world self stacks.old counts.old) (ref a.0) (answer_of result.answer)
+            (world result.state stacks.new counts.new) }
+    {
+        let answer = self.try_take(stacks, counts, a);
+        Reply {
+            state: self,
+            answer,
+        }
+    }
+
+    fn try_take(&mut self, stacks: &mut [u32], counts: &mut [u32], a: Addr) -> Result<(), Refusal>
         ensures { Takes (world self.old stacks.old counts.old) (ref a.0) (answer_of result)
             (world self.new stacks.new counts.new) }
     {

@@ -8,7 +8,6 @@ use Rattle.capi.proofs.kkaeduron_open.Goals as goal
 pub returns : goal.returns
 returns c =
     let a = c.args in
-    let call = rw (c.unwrap_or.ensures, c.none.ensures) at c.open-opened.ensures in
+    let call = rw (c.unwrap_or.ensures, c.none.ensures) at c.open-reply.ensures in
     let opens = opens_checked _ _ (unopened a.stacks.now a.counts.now) _ _ c.new-order.ensures call in
-    let put = rw (c.unwrap_or-2.ensures, c.none-2.ensures) at c.numbers_of.ensures in
-    rw c.answer_of.ensures (open_called _ (lent a.state.now a.stacks.now a.counts.now) opens put)
+    rw c.answer_of.ensures (open_called _ (lent a.state.now a.stacks.now a.counts.now) opens c.numbers_of.ensures)

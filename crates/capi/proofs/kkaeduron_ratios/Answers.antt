@@ -8,6 +8,6 @@ use Rattle.capi.proofs.kkaeduron_ratios.Goals as goal
 pub returns : goal.returns
 returns c =
     let a = c.args in
-    let says = c.state_from-opened.ensures in
+    let says = c.state_from-handed.ensures in
     let call = c.ratios-rated.ensures ∙ ap (λ (v : Opened). ratios_of v a.counts.now a.b a.s a.w) says.state in
     record { answer = c.answer_of.ensures ∙ ap (λ (q : Rated). q.answer) call; ratios = ap both_of (rw c.none.ensures at c.unwrap_or-miss.ensures) ∙ ap (λ (q : Rated). both_of q.ratios) call }

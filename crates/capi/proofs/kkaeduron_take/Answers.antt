@@ -8,5 +8,5 @@ pub returns : goal.returns
 returns c =
     let a = c.args in
     rw c.answer_of.ensures
-    (take_called (lent a.state.now a.stacks.now a.counts.now) (ref a.addr) c.state_from-opened.ensures c.take_ref-answer.ensures
+    (take_called (lent a.state.now a.stacks.now a.counts.now) (ref a.addr) c.state_from-handed.ensures c.take_ref-reply.ensures
     c.numbers_of.ensures)

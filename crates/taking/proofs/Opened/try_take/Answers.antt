@@ -1,9 +1,9 @@
--- `take_ref` meets its contract: refusals 1 to 5, then the quick way or the other. Assumes nothing.
+-- `try_take` meets its contract: refusals 1 to 5, then the quick way or the other. Assumes nothing.
 use mathlib.Core.Path.{sym, ap, ◌∙◌}
 use Rattle.taking.specs.Parts.{on_top}
 use Rattle.taking.proofs.NeedLaws.{fit_of, fit_walk, fit_tops}
 use Rattle.taking.proofs.OutcomeLaws.{same_blocks}
-use Rattle.taking.proofs.Opened.take_ref.Goals as goal
+use Rattle.taking.proofs.Opened.try_take.Goals as goal
 
 pub is_on_top-requires : goal.is_on_top-requires
 is_on_top-requires c = fit_walk _ _ _ (fit_of _ _ _ (sym c.in_ok-early.ensures)).0

@@ -1,8 +1,8 @@
--- `flush` meets its contract: refused, all is as it was; done, every stack is emptied. Assumes nothing.
+-- `try_flush` meets its contract: refused, all is as it was; done, every stack is emptied. Assumes nothing.
 use mathlib.Core.Path.{sym}
 use Rattle.taking.proofs.FlushLaws.{flush_done}
 use Rattle.taking.proofs.NeedLaws.{fit_flush}
-use Rattle.taking.proofs.Opened.flush.Goals as goal
+use Rattle.taking.proofs.Opened.try_flush.Goals as goal
 
 pub empty_all-requires : goal.empty_all-requires
 empty_all-requires c =

@@ -1,9 +1,9 @@
--- `ratios` meets its contract: what misses answers, and whether references were taken, say which of three outcomes comes. Assumes nothing.
+-- `try_ratios` meets its contract: what `try_misses` answers, and whether references were taken, say which of three outcomes comes. Assumes nothing.
 use mathlib.Core.Path.{sym, ap}
 use native.Mathlib.Omega.{arith}
 use Rattle.taking.specs.Questions.{Counted}
 use Rattle.taking.proofs.RatioLaws.{counted_small}
-use Rattle.taking.proofs.Opened.ratios.Goals as goal
+use Rattle.taking.proofs.Opened.try_ratios.Goals as goal
 
 pub rated-requires : goal.rated-requires
 rated-requires c =

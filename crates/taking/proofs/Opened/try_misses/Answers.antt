@@ -1,14 +1,13 @@
--- `misses` meets its contract: refused early, refused by the hits, or given. Assumes nothing.
+-- `try_misses` meets its contract: refused early, refused by the hits, or given. Assumes nothing.
 use Prim.Native.Nat.{ℕ, ◌+◌, ◌-◌, ◌*◌, ◌≤◌, ◌<◌}
-use mathlib.Core.Path.{◌≡◌, sym, ap, ◌∙◌}
+use mathlib.Core.Path.{◌≡◌, sym, ◌∙◌}
 use native.Mathlib.Omega.{arith}
 use native.Mathlib.Nat.{add-sub_cancel_left}
-use lib.ListN.{length, get_or, length-take}
+use lib.ListN.{length, length-take}
 use Rattle.lists.proofs.SumLaws.{sum_part}
 use Rattle.std.specs.Prelude.{Option, None, Result, Err}
 use Rattle.std.specs.Option.{ok_or}
 use Rattle.std.proofs.lemmas.Result.{err_from_is_err_and}
-use Rattle.lists.specs.Sums.{sum_to}
 use Rattle.order.specs.Limits.{rows}
 use Rattle.order.proofs.LimitLaws.{needs_small}
 use Rattle.units.specs.declared.refusal.Refusal.{Refusal}
@@ -16,8 +15,8 @@ use Rattle.units.specs.declared.refusal.Refusal.TheVariants.{CountOver}
 use Rattle.taking.specs.Parts.{unaskable}
 use Rattle.taking.specs.Questions.{hits_of}
 use Rattle.taking.proofs.QuestionLaws.{Asked, asked_of, misses_over_lem, misses_given, hits_at_places, places_fit}
-use Rattle.taking.proofs.Opened.misses.Goals as goal
-use Rattle.taking.proofs.Opened.misses.Goals.{After-rows, After-summed-hits}
+use Rattle.taking.proofs.Opened.try_misses.Goals as goal
+use Rattle.taking.proofs.Opened.try_misses.Goals.{After-rows, After-summed-hits}
 
 -- the refusal that stands for nothing
 refused_as : (r : Option ℕ) (e d : Refusal) → r ≡ None → ◌≡◌ {A = Result ℕ Refusal} (Err e) (ok_or r d) → e ≡ d
