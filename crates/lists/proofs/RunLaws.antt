@@ -2,11 +2,11 @@
 -- Assumes nothing.
 use Prim.Native.Nat.{suc, ◌≤◌}
 use mathlib.Core.Path.{◌≡◌, refl, sym, ap, ap₂, ◌∙◌}
-use mathlib.Core.Bool.{Bool, true, false}
+use mathlib.Core.Bool.{Bool, true, false, cond}
 use mathlib.Core.List.{List, [], ◌∷◌, ◌++◌, map}
 use native.Mathlib.Omega.{arith}
 use lib.ListN.{length}
-use Rattle.lists.specs.Runs.{answers, after, any_on, without, Each}
+use Rattle.lists.specs.Runs.{answers, after, any_on, left_on, without, Each}
 use Rattle.lists.proofs.Cases.{cases}
 
 module _ {S S' E : Type 0} (step : S → E → S) (step' : S' → E → S') (Rel : S → S' → Type 0)
@@ -44,6 +44,14 @@ pub after_snoc : {S E : Type 0} (step : S → E → S) (s : S) (es : List E) (e 
     → after step s (es ++ (e ∷ [])) ≡ step (after step s es) e
 after_snoc step s [] e = refl
 after_snoc step s (d ∷ es) e = after_snoc step (step s d) es e
+
+-- what one thing more adds to what is left: itself, where it does not pass the test
+pub left_snoc : {S E : Type 0} (step : S → E → S) (p : S → E → Bool) (s : S) (es : List E) (e : E)
+    → left_on step p s (es ++ (e ∷ [])) ≡ left_on step p s es ++ cond (p (after step s es) e) [] (e ∷ [])
+left_snoc step p s [] e = refl
+left_snoc step p s (d ∷ es) e =
+    let ih = left_snoc step p (step s d) es e in
+    cases (p s d) (λ q. simp (q, ih)) (λ q. simp (q, ih))
 
 pub after_append : {S E : Type 0} (step : S → E → S) (s : S) (a b : List E) → after step s (a ++ b) ≡ after step (after step s a) b
 after_append step s [] b = refl

@@ -10,4 +10,8 @@ returns c =
     let a = c.args in
     let says = c.state_from-handed.ensures in
     let call = c.ratios-rated.ensures ∙ ap (λ (v : Opened). ratios_of v a.counts.now a.b a.s a.w) says.state in
-    record { answer = c.answer_of.ensures ∙ ap (λ (q : Rated). q.answer) call; ratios = ap both_of (rw c.none.ensures at c.unwrap_or-miss.ensures) ∙ ap (λ (q : Rated). both_of q.ratios) call }
+    let handed = rw c.none.ensures at c.unwrap_or-miss.ensures in
+    record {
+      answer = c.answer_of.ensures ∙ ap (λ (q : Rated). q.answer) call;
+      ratios = ap both_of handed ∙ ap (λ (q : Rated). both_of q.ratios) call;
+    }
