@@ -88,7 +88,8 @@ module _ (l : List ℕ) (some : 0 < length l) where
   pub number_other : all_decimal l ≡ false → decimal_number l ≡ None
   number_other e = wrong (tests l some ∙ simp e)
 
-  pub number_right : length l ≤ 10 → (get_or l 0 0 ≡ 48 → length l ≤ 1) → all_decimal l ≡ true → decimal_number l ≡ Some (min (decimal 0 l) 4294967295)
+  pub number_right : length l ≤ 10 → (get_or l 0 0 ≡ 48 → length l ≤ 1) → all_decimal l ≡ true
+      → decimal_number l ≡ Some (min (decimal 0 l) 4294967295)
   number_right h zero e =
       let last : not (eqb (get_or l 0 0) 48) || eqb (length l) 1 ≡ true =
       cases (eqb (get_or l 0 0) 48)
@@ -107,6 +108,12 @@ at_least_handed_on digits limit h = at_least_cut (decimal 0 digits) 4294967295 l
 
 -- ---- the line, by the first of the cases that fits
 
+abbrev bad : OrderLine
+bad = Refused bad_order_line
+
+abbrev pub words : List ℕ → OrderLine
+words line = whole whole_lines line bad
+
 -- what was read of a line, or else what the cases left say
 abbrev pub read_or : OrderLine → Option GoodOrder → OrderLine
 read_or else (Some line) = good_order line
@@ -116,52 +123,54 @@ read_first : (else : OrderLine) (found next : Option GoodOrder) → read_or else
 read_first else None next = refl
 read_first else (Some line) next = refl
 
--- the cases left begin with one: its line was read where the test holds
-next : (test : Bool) (x else : OrderLine) (found line_of r : Option GoodOrder) → read_or else line_of ≡ cond test x else
-    → r ≡ option_or found line_of → read_or else r ≡ read_or (cond test x else) found
-next test x else found line_of r e f =
-    ap (read_or else) f ∙ read_first else found line_of ∙ ap (λ (l : OrderLine). read_or l found) e
+-- the cases left begin with one more, of which `own` was read where its test holds
+next : (test : Bool) (x else : OrderLine) (found own : Option GoodOrder) {all : Option GoodOrder} → read_or else own ≡ cond test x else
+    → all ≡ option_or found own → read_or else all ≡ read_or (cond test x else) found
+next test x else found own e f =
+    ap (read_or else) f ∙ read_first else found own ∙ ap (λ (l : OrderLine). read_or l found) e
 
 module _ (line : List ℕ) where
   -- a name and a number
-  mapped_line : (else : OrderLine) (n : List ℕ × (ℕ → OrderLine)) (read : ℕ → GoodOrder) (number : Option ℕ) (line_of : Option GoodOrder) → ((v : ℕ) → good_order (read v) ≡ n.1 v)
-      → number ≡ number_after n.0 line → MatchOption number (line_of ≡ None) (λ v. IsSomeAnd line_of (λ l. l ≡ read v))
-      → read_or else line_of ≡ cond (is_numbered n.0 line) (n.1 (value_of (after n.0 line))) else
-  mapped_line else n read None line_of s e m =
-      cases (is_numbered n.0 line)
-      (λ t. let some = simp t at e in cc)
-      (λ t. simp t (ap (read_or else) m))
-  mapped_line else n read (Some v) None s e m = absurd m
-  mapped_line else n read (Some v) (Some l) s e m =
-      cases (is_numbered n.0 line)
-      (λ t. let some = simp t at e in let value : v ≡ value_of (after n.0 line) = cc in simp t (ap good_order m ∙ s v ∙ ap n.1 value))
-      (λ t. let none = simp t at e in cc)
+  module _ (n : List ℕ × (ℕ → OrderLine)) (read : ℕ → GoodOrder) (same : (v : ℕ) → good_order (read v) ≡ n.1 v) where
+    number_own : (else : OrderLine) (number : Option ℕ) (own : Option GoodOrder) → number ≡ number_after n.0 line
+        → MatchOption number (own ≡ None) (λ v. IsSomeAnd own (λ l. l ≡ read v))
+        → read_or else own ≡ cond (is_numbered n.0 line) (n.1 (value_of (after n.0 line))) else
+    number_own else None own e m =
+        cases (is_numbered n.0 line)
+        (λ t. let some = simp t at e in cc)
+        (λ t. simp t (ap (read_or else) m))
+    number_own else (Some v) None e m = absurd m
+    number_own else (Some v) (Some l) e m =
+        cases (is_numbered n.0 line)
+        (λ t.
+        let some = simp t at e in
+        let value : v ≡ value_of (after n.0 line) = cc in
+        simp t (ap good_order m ∙ same v ∙ ap n.1 value))
+        (λ t. let none = simp t at e in cc)
 
-  pub number_next : (else : OrderLine) (found : Option GoodOrder) (n : List ℕ × (ℕ → OrderLine)) (more : List (List ℕ × (ℕ → OrderLine))) (read : ℕ → GoodOrder) (number : Option ℕ)
-      (line_of r : Option GoodOrder) → ((v : ℕ) → good_order (read v) ≡ n.1 v) → number ≡ number_after n.0 line
-      → MatchOption number (line_of ≡ None) (λ v. IsSomeAnd line_of (λ l. l ≡ read v)) → r ≡ option_or found line_of
-      → read_or (numbered more line else) r ≡ read_or (numbered (n ∷ more) line else) found
-  unfolding numbered
-  number_next else found n more read number line_of r s e m f =
-      next (is_numbered n.0 line) (n.1 (value_of (after n.0 line))) (numbered more line else) found line_of r
-      (mapped_line (numbered more line else) n read number line_of s e m) f
+    pub number_next : (more : List (List ℕ × (ℕ → OrderLine)))
+        (found own : Option GoodOrder) {all : Option GoodOrder} {number : Option ℕ} → number ≡ number_after n.0 line
+        → MatchOption number (own ≡ None) (λ v. IsSomeAnd own (λ l. l ≡ read v)) → all ≡ option_or found own
+        → read_or (numbered more line (words line)) all ≡ read_or (numbered (n ∷ more) line (words line)) found
+    unfolding numbered
+    number_next more found own {all} {number} e m f =
+        let else = numbered more line (words line) in
+        next (is_numbered n.0 line) (n.1 (value_of (after n.0 line))) else found own (number_own else number own e m) f
 
   -- a whole line
-  pub whole_next : (else : OrderLine) (found : Option GoodOrder) (w : List ℕ × OrderLine) (more : List (List ℕ × OrderLine)) (read : GoodOrder) (t : Bool) (line_of r : Option GoodOrder)
-      → good_order read ≡ w.1 → t ≡ is_whole w.0 line → line_of ≡ then_some t read → r ≡ option_or found line_of
-      → read_or (whole more line else) r ≡ read_or (whole (w ∷ more) line else) found
+  pub whole_next : (w : List ℕ × OrderLine) (read : GoodOrder) → good_order read ≡ w.1 → (more : List (List ℕ × OrderLine))
+      (found own : Option GoodOrder) {all : Option GoodOrder} {t : Bool} → t ≡ is_whole w.0 line → own ≡ then_some t read
+      → all ≡ option_or found own → read_or (whole more line bad) all ≡ read_or (whole (w ∷ more) line bad) found
   unfolding whole
-  whole_next else found w more read t line_of r s e m f =
-      let is : read_or (whole more line else) line_of ≡ cond (is_whole w.0 line) w.1 (whole more line else) =
-      cases (is_whole w.0 line) (λ h. simp (m, e, h) s) (λ h. simp (m, e, h)) in
-      next (is_whole w.0 line) w.1 (whole more line else) found line_of r is f
-
-abbrev pub words : List ℕ → OrderLine
-words line = whole whole_lines line (Refused bad_order_line)
+  whole_next w read same more found own e m f =
+      let else = whole more line bad in
+      let is : read_or else own ≡ cond (is_whole w.0 line) w.1 else =
+      cases (is_whole w.0 line) (λ h. simp (m, e, h) same) (λ h. simp (m, e, h)) in
+      next (is_whole w.0 line) w.1 else found own is f
 
 -- where nothing is left to try, the line is bad
 pub last_whole : (line : List ℕ) (found : Option GoodOrder)
-    → order_read (ok_or found BadOrderLine) ≡ read_or (whole [] line (Refused bad_order_line)) found
+    → order_read (ok_or found BadOrderLine) ≡ read_or (whole [] line bad) found
 unfolding whole
 last_whole line None = refl
 last_whole line (Some read) = refl

@@ -33,11 +33,11 @@ impl Reading {
         }
     }
 
-    // A line that stands at this place alone, and the next after it.
-    fn pass(&mut self, place: u32) -> Result<(), Refusal>
+    // Past this stage, where the input has come to it.
+    fn go_past(&mut self, place: u32) -> Result<(), Refusal>
         requires { place < 8 }
-        ensures { answered (answer_of result) self.new
-            ≡ cond (eqb self.old.stage place) (answered done (with_stage (place + 1) self.old)) (answered bad_order_line self.old) }
+        ensures { answered (answer_of result) self.new ≡ cond (eqb self.old.stage place)
+            (answered done (with_stage (place + 1) self.old)) (answered bad_order_line self.old) }
     {
         if self.stage != place {
             return Err(Refusal::BadOrderLine);
@@ -51,7 +51,7 @@ impl Reading {
         requires { place < 6 }
         ensures { answered (answer_of result) self.new ≡ number_at place n self.old }
     {
-        self.pass(place)?;
+        self.go_past(place)?;
         self.head.numbers[place as usize] = n;
         Ok(())
     }
@@ -60,7 +60,7 @@ impl Reading {
     fn counting(&mut self, kinds: Kinds) -> Result<(), Refusal>
         ensures { answered (answer_of result) self.new ≡ kinds_at kinds self.old }
     {
-        self.pass(stage::KINDS)?;
+        self.go_past(stage::KINDS)?;
         self.head.kinds = kinds;
         Ok(())
     }

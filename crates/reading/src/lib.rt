@@ -73,7 +73,8 @@ impl Reading {
         }
     }
 
-    // One line, without its LF. Where it is refused, it is the line self.lines, and a bad line of the trace is so at its column self.column.
+    // One line, without its LF. One that is refused is the line self.lines, and a bad line of the trace is so at its
+    // column self.column.
     pub fn step(
         &mut self,
         line: &[u8],

@@ -1,5 +1,5 @@
-// The stages of an input: what comes next in it. They are numbers, and no enum, since what takes a Reading promises for every number of a
-// stage: an enum of these nine would ask more of its callers.
+// The stages of an input: what comes next in it. They are numbers, and no enum: what takes a Reading promises for
+// every number of a stage, and an enum of these nine would ask more of its callers.
 
 // The line of each of the order's numbers, in their order.
 pub const BMIN: u32 = 0;

@@ -30,10 +30,13 @@ all_left l i =
     ap (λ (n : ℕ). take n (drop i l)) left ∙ take-length (drop i l)
 
 -- the digits, as bytes of the line
-digits : (c : After-hex_digits-address) → let d = c.hex_digits-address.result in HexDigits (drop (1 + c.blanks-start.result) c.args.line.now) d.value d.count
+digits : (c : After-hex_digits-address) →
+    let d = c.hex_digits-address.result in
+    HexDigits (drop (1 + c.blanks-start.result) c.args.line.now) d.value d.count
 digits c =
     let d = c.hex_digits-address.result in
-    subst (λ (bytes : List ℕ). HexDigits bytes d.value d.count) (all_left c.args.line.now (1 + c.blanks-start.result)) c.hex_digits-address.ensures
+    let bytes = all_left c.args.line.now (1 + c.blanks-start.result) in
+    subst (λ (bytes : List ℕ). HexDigits bytes d.value d.count) bytes c.hex_digits-address.ensures
 
 goes_on : (c : After-hex_digits-address) →
     let line = c.args.line.now in
@@ -41,15 +44,14 @@ goes_on : (c : After-hex_digits-address) →
     let end = 1 + c.blanks-start.result + d.count in
     trace_line_of line ≡ in_address c.in-Some.label.now d.count d.value (end + 1) (drop end line)
 goes_on c =
-    let line = c.args.line.now in
     let n = c.blanks-start.result in
     let d = c.hex_digits-address.result in
     let label = c.in-Some.label.now in
     let at = (goal.at.After-hex_digits-address c).After-blanks-start in
-    let from = line_address line label c.in-Some.rest.now c.in-Some.ensures.cases.0 c.if-line-gt-LONGEST.false (right at) n c.blanks-start.ensures (λ z. omega arith)
-    (omega (arith, within at)) in
     let column : 1 + n + 1 + d.count ≡ 1 + n + d.count + 1 = omega arith in
-    from ∙ (digits c).goes_on label (1 + n + 1) ∙ ap₂ (in_address label d.count d.value) column (rw drop-drop refl)
+    line_address _ label _ c.in-Some.ensures.cases.0 c.if-line-gt-LONGEST.false (right at) n c.blanks-start.ensures (λ z. omega arith)
+    (omega (arith, within at))
+    ∙ (digits c).goes_on label (1 + n + 1) ∙ ap₂ (in_address label d.count d.value) column (rw drop-drop refl)
 
 pub returns-then-line-gt-LONGEST : goal.returns-then-line-gt-LONGEST
 returns-then-line-gt-LONGEST c = trace_says (too_long_lem _ c.if-line-gt-LONGEST.true ∙ sym c.bad_at.ensures)
@@ -71,7 +73,9 @@ returns-then-start-eq1 c =
 pub returns-then-start-line : goal.returns-then-start-line
 returns-then-start-line c =
     let at = (goal.at.returns-then-start-line c).After-blanks-start in
-    trace_says (line_no_address _ _ _ c.in-Some.ensures.cases.0 c.if-line-gt-LONGEST.false (right at) _ c.blanks-start.ensures (λ z. omega arith) c.if-start-line.true
+    let first = c.in-Some.ensures.cases.0 in
+    trace_says
+    (line_no_address _ _ _ first c.if-line-gt-LONGEST.false (right at) _ c.blanks-start.ensures (λ z. omega arith) c.if-start-line.true
     ∙ sym c.bad_at-then-start-line.ensures)
 
 pub returns-then-not-is_blank : goal.returns-then-not-is_blank
@@ -90,10 +94,14 @@ returns c =
     let at = (goal.at.returns c).After-hex_digits-address in
     let line = c.args.line.now in
     let d = c.hex_digits-address.result in
-    let end = 1 + c.blanks-start.result + d.count in
-    let read : in_address c.in-Some.label.now d.count d.value (end + 1) (drop end line) ≡ labelled c.in-Some.label.now d.value =
+    let start = 1 + c.blanks-start.result in
+    let fits = within (goal.at.After-hex_digits-address at).After-blanks-start in
+    let label = c.in-Some.label.now in
+    let end = start + d.count in
+    let read : in_address label d.count d.value (end + 1) (drop end line) ≡ labelled label d.value =
     elim c.else-end-line.branch [
-      | else-end-line-via-then-end-line+else-not-is_blank w ↦ address_blank _ _ _ _ line _ w.if-end-line.true (sym w.is_blank.ensures ∙ w.if-not-is_blank.false)
-      | else-end-line-via-else-end-line w ↦ address_end _ _ _ _ line _ (omega (arith, (digits at).within, length-drop (1 + c.blanks-start.result) line, within (goal.at.After-hex_digits-address at).After-blanks-start))
+      | else-end-line-via-then-end-line+else-not-is_blank w ↦
+          address_blank _ _ _ _ line _ w.if-end-line.true (sym w.is_blank.ensures ∙ w.if-not-is_blank.false)
+      | else-end-line-via-else-end-line w ↦ address_end _ _ _ _ line _ (omega (arith, (digits at).within, length-drop start line, fits))
     ] in
     trace_says (goes_on at ∙ read ∙ sym c.labelled.ensures)

@@ -1,7 +1,7 @@
 -- `hex_digits` meets its contract. Assumes nothing.
 use Prim.Native.Nat.{ℕ, ◌+◌, ◌*◌, ◌^◌, ◌≤◌, ◌<◌, min}
 use mathlib.Core.Path.{◌≡◌, sym, ap, ◌∙◌}
-use mathlib.Core.Bool.{true, false, and-false}
+use mathlib.Core.Bool.{true, and-false}
 use mathlib.Core.List.{List}
 use native.Mathlib.Nat.{add-zero}
 use native.Mathlib.Numerals.{add-one}
@@ -17,17 +17,14 @@ use Rattle.lines.proofs.TraceLaws.{address_more}
 use Rattle.lines.proofs.hex.hex_digits.Goals as goal
 use Rattle.lines.proofs.hex.hex_digits.Goals.{In-Some}
 
--- one more of at most 8 digits fits
-fits : (count value digit : ℕ) → value < 16 ^ count → digit < 16 → count < 8 → value * 16 + digit < 16 ^ 8
-fits count value digit below small h = numeral_fits 16 8 count value digit below small h
-
--- the byte that comes next stands in the line, and is one of the first 8
+-- the byte at a place of the first 8
 module _ (bytes : List ℕ) (most i : ℕ) (is : most ≡ min (length bytes) 8) (more : i < length (take most bytes)) where
   next : (i < length bytes) × (i < 8) × (get_or (take most bytes) i 0 ≡ get_or bytes i 0)
   next =
       let within : i < min most (length bytes) = simp length-take at more in
       (omega arith, omega arith, get_or-take most bytes i 0 (omega arith))
 
+-- the one that was just read
 abbrev byte_of : In-Some → ℕ
 byte_of c = get_or c.args.bytes.now c.loop-count.count 0
 
@@ -36,25 +33,29 @@ told c =
     let at = next c.args.bytes.now c.min.result c.loop-count.count c.min.ensures c.loop-count-test.true in
     digit_told (byte_of c) c.in-Some.digit (sym c.in-Some.is ∙ c.hex_digit.ensures ∙ ap hex_digit at.2)
 
+-- and the value with it fits 8 digits
+fits : (c : In-Some) → c.loop-count.value * 16 + c.in-Some.digit < 16 ^ 8
+fits c =
+    let l = c.loop-count in
+    let at = next c.args.bytes.now c.min.result l.count c.min.ensures c.loop-count-test.true in
+    numeral_fits 16 8 l.count l.value c.in-Some.digit l.invariant.0 (told c).2 at.1
+
 pub loop-count-init : goal.loop-count-init
 loop-count-init c = (omega arith, λ label k. simp add-zero)
 
 pub returns-in_default : goal.returns-in_default
 returns-in_default c =
-    let at = next c.args.bytes.now c.min.result c.loop-count.count c.min.ensures c.loop-count-test.true in
-    let other : is_hex (get_or c.args.bytes.now c.loop-count.count 0) ≡ false =
-    no_digit_told (get_or c.args.bytes.now c.loop-count.count 0) (sym c.in_default.is ∙ c.hex_digit.ensures ∙ ap hex_digit at.2) in
-    record { within = omega arith; goes_on = λ label k. c.loop-count.invariant.1 label k; ended = λ h. simp other }
+    let l = c.loop-count in
+    let byte = get_or c.args.bytes.now l.count 0 in
+    let at = next c.args.bytes.now c.min.result l.count c.min.ensures c.loop-count-test.true in
+    let other = no_digit_told byte (sym c.in_default.is ∙ c.hex_digit.ensures ∙ ap hex_digit at.2) in
+    record { within = omega arith; goes_on = λ label k. l.invariant.1 label k; ended = λ h. simp other }
 
 pub overflow_mul-value : goal.overflow_mul-value
-overflow_mul-value c =
-    let at = next c.args.bytes.now c.min.result c.loop-count.count c.min.ensures c.loop-count-test.true in
-    omega (arith, fits c.loop-count.count c.loop-count.value c.in-Some.digit c.loop-count.invariant.0 (told c).2 at.1)
+overflow_mul-value c = omega (arith, fits c)
 
 pub overflow_add-value : goal.overflow_add-value
-overflow_add-value c =
-    let at = next c.args.bytes.now c.min.result c.loop-count.count c.min.ensures c.loop-count-test.true in
-    omega (arith, fits c.loop-count.count c.loop-count.value c.in-Some.digit c.loop-count.invariant.0 (told c).2 at.1)
+overflow_add-value c = omega (arith, fits c)
 
 pub loop-count-preserved : goal.loop-count-preserved
 loop-count-preserved c =
