@@ -1,4 +1,4 @@
--- The loops of `walk` and `look`: what they know on their way, and what they come to.
+-- The loops of `look`: what they know on their way, and what they come to.
 -- Assumes nothing.
 use Prim.Native.Nat.{ℕ, ◌+◌, ◌*◌, ◌≤◌, ◌<◌}
 use mathlib.Core.Path.{◌≡◌, sym, ap, ◌∙◌}
@@ -20,10 +20,11 @@ use Rattle.lists.proofs.MemberLaws.{length_keep, absent_above, found_above, abse
 use Rattle.lists.proofs.PartLaws.{part_at, length_part}
 use Rattle.lists.proofs.WriteLaws.{length_write, write_before, write_at_lem, write_past}
 use Rattle.cache.specs.Cache.{set_of}
+use Rattle.cache.specs.Stack.{depth}
 use Rattle.cache.proofs.SetLaws.{shared}
 use Rattle.order.specs.Limits.{sizes, rows}
 use Rattle.taking.specs.Places.{used_of, stack_at, depth_at}
-use Rattle.taking.specs.Parts.{Fit, Walked}
+use Rattle.taking.specs.Parts.{Fit}
 use Rattle.taking.specs.declared.Opened.{Opened}
 use Rattle.taking.proofs.NeedLaws.{stack_fits}
 
@@ -35,10 +36,15 @@ pub record Sizes (v : Opened) (st : List ℕ) (x : ℕ → ℕ) (k : ℕ) (ps ds
   pub deep : (j s : ℕ) → j < k → s < rows v.order → get_or ds (j * 15 + s) 0 ≡ depth_at v st x j s
   pub blank : (i : ℕ) → k * 15 ≤ i → get_or ds i 0 ≡ 0
 
--- the walk over a stack l has passed i entries: block x is none of them, and those that share its set are counted
+-- the walk over the stack l has passed i entries: block x is none of them, and those that share its set are counted
 pub record Walking (l : List ℕ) (x i : ℕ) (ds : List ℕ) : Type 0 where
   pub absent : mem x (take i l) ≡ false
   pub counted : (s : ℕ) → s < length ds → get_or ds s 0 ≡ length (keep (λ y. eqb (set_of s x) (set_of s y)) (take i l))
+
+-- it has left at p, where block x is or the stack ends, and has the depths of x there
+pub record Walked (l : List ℕ) (x p : ℕ) (ds : List ℕ) : Type 0 where
+  pub place : p ≡ length (above x l)
+  pub deep : (s : ℕ) → s < length ds → get_or ds s 0 ≡ depth s x l
 
 -- ---- one stack
 
@@ -54,12 +60,12 @@ module _ (l : List ℕ) (x i : ℕ) (ds : List ℕ) (w : Walking l x i ds) where
         deep = λ s q. w.counted s q ∙ ap (λ (t : List ℕ). length (keep (λ y. eqb (set_of s x) (set_of s y)) t)) (sym up);
       }
 
-  pub walk_end : length l ≡ i → Walked l x i ds
-  walk_end e =
-      let all = take_all i l (omega arith) in
+  pub walk_end : length l ≤ i → Walked l x (length l) ds
+  walk_end g =
+      let all = take_all i l g in
       let up = absent_above x l (ap (mem x) (sym all) ∙ w.absent) in
       record {
-        place = sym (ap length up ∙ e);
+        place = sym (ap length up);
         deep = λ s q. w.counted s q ∙ ap (λ (t : List ℕ). length (keep (λ y. eqb (set_of s x) (set_of s y)) t)) (all ∙ sym up);
       }
 

@@ -5,7 +5,6 @@ use Rattle.lists.specs.Members.{above}
 use Rattle.lists.specs.Tables.{written_rows, set_lengths, over_groups, raised_groups}
 use Rattle.lists.specs.Tests.{first_of, any_to, All≤}
 use Rattle.cache.specs.Cache.{block_of}
-use Rattle.cache.specs.Stack.{depth}
 use Rattle.units.specs.Refusals.{outside_limits, short_stacks, short_counts, foreign_state, refs_reached, not_in_order}
 use Rattle.order.specs.Limits.{sizes_most, rows_most, limits, within, sizes, rows, stack_need, count_need}
 use Rattle.taking.specs.Places.{used_of, stack_at, depth_at}
@@ -85,11 +84,6 @@ pub record Blank (ps ds : List ℕ) : Type 0 where
   pub places : length ps ≡ sizes_most
   pub depths : length ds ≡ sizes_most * rows_most
   pub zero : (i : ℕ) → get_or ds i 0 ≡ 0
-
--- a walk over the stack l has left at p, where block x is or the stack ends, and has the depths of x there
-pub record Walked (l : List ℕ) (x p : ℕ) (ds : List ℕ) : Type 0 where
-  pub place : p ≡ length (above x l)
-  pub deep : (s : ℕ) → s < length ds → get_or ds s 0 ≡ depth s x l
 
 -- all block sizes are looked at: where each walk left, and its depths
 pub record Looked (v : Opened) (st : List ℕ) (x : ℕ → ℕ) (ps ds : List ℕ) : Type 0 where

@@ -1,12 +1,12 @@
 // Taking a reference at all block sizes (SCOPE, "The stack and the counts"): the quick way, and the walk.
-ghost use Rattle.std.specs.Prelude.{◌≡◌, ℕ, ◌<◌, ◌≤◌, true, List, length, get_or};
+ghost use Rattle.std.specs.Prelude.{◌≡◌, ℕ, ◌<◌, true, List, length};
 ghost use Rattle.units.specs.Refusals.{answer_of};
-ghost use Rattle.order.specs.Limits.{rows_most, stack_need, count_need};
+ghost use Rattle.order.specs.Limits.{stack_need, count_need};
 ghost use Rattle.cache.specs.Cache.{block_of, ref};
 ghost use Rattle.taking.specs.Places.{block_at};
 ghost use Rattle.taking.specs.World.{world};
 ghost use Rattle.taking.specs.Taking.{Takes};
-ghost use Rattle.taking.specs.Parts.{count_most, Fit, Blank, wider_by, on_top, Walked, Looked};
+ghost use Rattle.taking.specs.Parts.{Fit, Blank, wider_by, on_top, Looked};
 
 use crate::counting::{bump, raise_tops, tops_over};
 use crate::{Opened, Reply};
@@ -50,8 +50,10 @@ impl Opened {
         let sizes = self.order.sizes();
         let room = self.order.room as usize;
         for (k, used) in self.used[..sizes].iter().enumerate() {
-            let top = BlockNo(stacks[k * room]);
-            if *used == 0 || first.wider(k as u32) != top {
+            let x = first.wider(k as u32);
+            let y = BlockNo(stacks[k * room]);
+            // A named form (SCOPE, F4): each stack comparison counts the trailing zeros of the xor. All 32: one block.
+            if *used == 0 || (x.0 ^ y.0).trailing_zeros() < 32 {
                 return false;
             }
         }
@@ -111,29 +113,24 @@ impl Opened {
         let rows = self.order.rows();
         let room = self.order.room as usize;
         for (k, used) in self.used[..sizes].iter().enumerate() {
+            let x = first.wider(k as u32);
             let base = k * room;
             let at = k * Order::ROWS_MOST;
             let stack = &stacks[base..base + *used as usize];
-            let place = walk(stack, first.wider(k as u32), &mut depths[at..at + rows]);
+            let deep = &mut depths[at..at + rows];
+            // A named form (SCOPE, F5): this loop breaks with the place found, inside the one over block sizes.
+            let place = 'walk: {
+                for (i, entry) in stack.iter().enumerate() {
+                    let y = BlockNo(*entry);
+                    if y == x {
+                        break 'walk i;
+                    }
+                    let shared = (x.0 ^ y.0).trailing_zeros();
+                    bump(deep, shared);
+                }
+                stack.len()
+            };
             places[k] = place as u32;
         }
     }
-}
-
-// Walks a stack to block x, or to its end: gives where the walk left, and counts the depths of x there.
-fn walk(stack: &[u32], x: BlockNo, depths: &mut [u32]) -> usize
-    requires small { length stack.now < count_most }
-    requires few { length depths.old ≤ rows_most }
-    requires zero { (s : ℕ) → s < length depths.old → get_or depths.old s 0 ≡ 0 }
-    ensures { Walked stack.now x.0 result depths.new }
-{
-    for (i, entry) in stack.iter().enumerate() {
-        let y = BlockNo(*entry);
-        if y == x {
-            return i;
-        }
-        let shared = (x.0 ^ y.0).trailing_zeros();
-        bump(depths, shared);
-    }
-    stack.len()
 }
