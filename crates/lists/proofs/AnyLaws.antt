@@ -11,7 +11,7 @@ use Rattle.std.specs.List.{list_any}
 use Rattle.std.proofs.lemmas.List.Folds.{list_any_more}
 use Rattle.lists.specs.Tests.{any_to}
 
-pub any_listed : (p : ℕ → Bool) (xs : List ℕ) (n : ℕ) → n ≤ length xs → list_any p (take n xs) ≡ any_to n (λ (k : ℕ). p (get_or xs k 0))
+pub any_listed : {A : Type 0} (p : A → Bool) (xs : List A) (d : A) (n : ℕ) → n ≤ length xs → list_any p (take n xs) ≡ any_to n (λ (k : ℕ). p (get_or xs k d))
 unfolding any_to
-any_listed p xs zero h = refl
-any_listed p xs (suc n) h = rw (← add-one n, list_any_more p xs n 0 (omega arith), any_listed p xs n (omega arith))
+any_listed p xs d zero h = refl
+any_listed p xs d (suc n) h = rw (← add-one n, list_any_more p xs n d (omega arith), any_listed p xs d n (omega arith))

@@ -26,73 +26,72 @@ use Rattle.taking.specs.World.{world}
 use Rattle.sizes.specs.Size.{is_full, is_over}
 use Rattle.taking.proofs.NeedLaws.{answer_by_sizes}
 use Rattle.taking.proofs.TakenLaws.{full_each, over_each, taken_is}
-use Rattle.taking.specs.Parts.{early_answer, Fit, wider_by, Looked, found_by, deep_by, over_by, raised_by, full_by, Tabled, Roomed}
+use Rattle.taking.specs.Parts.{early_answer, Fit, wider_by, Looked, walk_of, found_by, deep_by, over_by, raised_by, full_by, Tabled, Roomed}
 use Rattle.taking.specs.declared.Opened.{Opened}
+use Rattle.taking.specs.declared.references.Walk.{Walk}
 use Rattle.taking.proofs.LookLaws.{length_stack}
 
-module _ (v : Opened) (st : List ℕ) (x : ℕ → ℕ) (m : ℕ) (ps ds : List ℕ) (f : Fit v (length st) m) (seen : Looked v st x ps ds) where
-  same_found : (k : ℕ) → k < sizes v.order → found_by v.used ps k ≡ found_at v st x k
+module _ (v : Opened) (st : List ℕ) (x : ℕ → ℕ) (m : ℕ) (ws : List Walk) (f : Fit v (length st) m) (seen : Looked v st x ws) where
+  same_found : (k : ℕ) → k < sizes v.order → found_by v.used ws k ≡ found_at v st x k
   same_found k h =
-      ap (λ (n : ℕ). ltb n (used_of v k)) (seen.place k h)
+      ap (λ (n : ℕ). ltb n (used_of v k)) ((seen k h).place)
       ∙ ap (ltb (length (above (x k) (stack_at v st k)))) (sym (length_stack v st m k f h))
       ∙ sym (mem_above (x k) (stack_at v st k))
 
-  same_full : (k : ℕ) → k < sizes v.order → leb v.order.room (get_or ps k 0) ≡ full_at v st x k
+  same_full : (k : ℕ) → k < sizes v.order → leb v.order.room ((walk_of ws k).place) ≡ full_at v st x k
   same_full k h =
       cases (found_at v st x k)
       (λ e.
-      let left = ltb-true (get_or ps k 0) (used_of v k) (same_found k h ∙ e) in
-      simp e (lt-leb v.order.room (get_or ps k 0) (omega (arith, f.used k h))))
+      let left = ltb-true ((walk_of ws k).place) (used_of v k) (same_found k h ∙ e) in
+      simp e (lt-leb v.order.room ((walk_of ws k).place) (omega (arith, f.used k h))))
       (λ e.
       let up = ap length (absent_above (x k) (stack_at v st k) e) in
-      let left : get_or ps k 0 ≡ used_of v k = seen.place k h ∙ up ∙ length_stack v st m k f h in
+      let left : (walk_of ws k).place ≡ used_of v k = (seen k h).place ∙ up ∙ length_stack v st m k f h in
       simp e (ap (leb v.order.room) left))
 
-  pub full_is : full_by v ps ≡ any_to (sizes v.order) (full_at v st x)
-  full_is = any_same (sizes v.order) (λ (k : ℕ). leb v.order.room (get_or ps k 0)) (full_at v st x) same_full
+  pub full_is : full_by v ws ≡ any_to (sizes v.order) (full_at v st x)
+  full_is = any_same (sizes v.order) (λ (k : ℕ). leb v.order.room ((walk_of ws k).place)) (full_at v st x) same_full
 
-  pub over_is : (ct : List ℕ) → over_by v ps ds ct ≡ over_all v st ct x
+  pub over_is : (ct : List ℕ) → over_by v ws ct ≡ over_all v st ct x
   over_is ct =
       any_same (sizes v.order)
-      (λ (k : ℕ). found_by v.used ps k && any_to (rows v.order) (over_row v.order.ways (k * rows v.order) (deep_by ds k) v.taken ct))
+      (λ (k : ℕ). found_by v.used ws k && any_to (rows v.order) (over_row v.order.ways (k * rows v.order) (deep_by ws k) v.taken ct))
       (λ (k : ℕ). found_at v st x k && any_to (rows v.order) (over_row v.order.ways (k * rows v.order) (depth_at v st x k) v.taken ct))
       (λ k h.
-      ap (λ (t : Bool). t && any_to (rows v.order) (over_row v.order.ways (k * rows v.order) (deep_by ds k) v.taken ct)) (same_found k h)
+      ap (λ (t : Bool). t && any_to (rows v.order) (over_row v.order.ways (k * rows v.order) (deep_by ws k) v.taken ct)) (same_found k h)
       ∙ ap (λ (t : Bool). found_at v st x k && t)
-      (any_same (rows v.order) (over_row v.order.ways (k * rows v.order) (deep_by ds k) v.taken ct)
+      (any_same (rows v.order) (over_row v.order.ways (k * rows v.order) (deep_by ws k) v.taken ct)
       (over_row v.order.ways (k * rows v.order) (depth_at v st x k) v.taken ct)
       (λ s g. ap (λ (n : ℕ). ltb n v.order.ways && leb v.taken (get_or ct ((k * rows v.order + s) * v.order.ways + n) 0))
-      (seen.deep k s h g))))
+      ((seen k h).deep s g))))
 
-  pub counts_is : (ct : List ℕ) → raised_by v ps ds ct ≡ counts_done v st ct x
+  pub counts_is : (ct : List ℕ) → raised_by v ws ct ≡ counts_done v st ct x
   counts_is ct =
-      groups_same v.order.ways (rows v.order) (found_by v.used ps) (found_at v st x) (deep_by ds) (depth_at v st x)
-      (sizes v.order) ct same_found seen.deep
+      groups_same v.order.ways (rows v.order) (found_by v.used ws) (found_at v st x) (deep_by ws) (depth_at v st x)
+      (sizes v.order) ct same_found (λ k s h g. (seen k h).deep s g)
 
   -- so the counting has what it asks for: two blocks that share no set share none at more sets
-  pub tabled : length ps ≡ 8 → length ds ≡ 120 → Tabled v m ps ds
-  tabled places depths = record {
+  pub tabled : Tabled v m ws
+  tabled = record {
     numbers = f.numbers;
     wide = f.wide;
     ceiling = f.ceiling;
-    places = places;
-    depths = depths;
+    long = λ k h. (seen k h).long;
     falling = λ k h s t le g e.
         let shallow = depth_falls s t le (x k) (stack_at v st k) in
-        let here = seen.deep k s h (omega arith) in
-        let there = seen.deep k t h g in
+        let here = (seen k h).deep s (omega arith) in
+        let there = (seen k h).deep t g in
         omega arith;
   }
 
   -- and, where no walk left at room or past it, so has the moving
-  pub roomed : length ps ≡ 8 → full_by v ps ≡ false → Roomed v x st ps
-  roomed places none = record {
+  pub roomed : full_by v ws ≡ false → Roomed v x st ws
+  roomed none = record {
     numbers = f.numbers;
     long = f.long;
-    places = places;
     used = f.used;
-    below = λ k h. leb-false v.order.room (get_or ps k 0) (any_not (sizes v.order) (λ (k : ℕ). leb v.order.room (get_or ps k 0)) none k h);
-    place = seen.place;
+    below = λ k h. leb-false v.order.room (walk_of ws k).place (any_not (sizes v.order) (λ (k : ℕ). leb v.order.room (walk_of ws k).place) none k h);
+    place = λ k h. (seen k h).place;
   }
 
 -- the blocks of an address, made from that of the smallest size

@@ -5,13 +5,15 @@ use Rattle.lists.specs.Members.{above}
 use Rattle.lists.specs.Tables.{written_rows, set_lengths, over_groups, raised_groups}
 use Rattle.lists.specs.Tests.{first_of, any_to, All≤}
 use Rattle.cache.specs.Cache.{block_of}
+use Rattle.cache.specs.Stack.{depth}
 use Rattle.units.specs.Refusals.{outside_limits, short_stacks, short_counts, foreign_state, refs_reached, not_in_order}
-use Rattle.order.specs.Limits.{sizes_most, rows_most, limits, within, sizes, rows, stack_need, count_need}
-use Rattle.taking.specs.Places.{used_of, stack_at, depth_at}
+use Rattle.order.specs.Limits.{rows_most, limits, within, sizes, rows, stack_need, count_need}
+use Rattle.taking.specs.Places.{used_of, stack_at}
 use Rattle.taking.specs.Plain.{topped, stacks_done}
 use Rattle.taking.specs.Questions.{has}
 use Rattle.taking.specs.Taking.{is_foreign}
 use Rattle.taking.specs.declared.Opened.{Opened}
+use Rattle.taking.specs.declared.references.Walk.{Walk}
 
 -- ---- the refusals
 
@@ -79,23 +81,26 @@ on_top v st x = not (any_to (sizes v.order) (off_top v st x))
 
 -- ---- the walk
 
--- scratch for every block size and s that an order can have, the depths zero
-pub record Blank (ps ds : List ℕ) : Type 0 where
-  pub places : length ps ≡ sizes_most
-  pub depths : length ds ≡ sizes_most * rows_most
-  pub zero : (i : ℕ) → get_or ds i 0 ≡ 0
+-- what is found at size k, and nothing past the sizes
+abbrev pub walk_of : List Walk → ℕ → Walk
+walk_of ws k = get_or ws k (record { place = 0; depths = [] })
 
--- all block sizes are looked at: where each walk left, and its depths
-pub record Looked (v : Opened) (st : List ℕ) (x : ℕ → ℕ) (ps ds : List ℕ) : Type 0 where
-  pub place : (k : ℕ) → k < sizes v.order → get_or ps k 0 ≡ length (above (x k) (stack_at v st k))
-  pub deep : (k s : ℕ) → k < sizes v.order → s < rows v.order → get_or ds (k * rows_most + s) 0 ≡ depth_at v st x k s
+-- a walk over the stack l has left where block x is or the stack ends, and has the depths of x there for the first r numbers of sets
+pub record Walked (r : ℕ) (l : List ℕ) (x : ℕ) (w : Walk) : Type 0 where
+  pub place : w.place ≡ length (above x l)
+  pub long : length w.depths ≡ rows_most
+  pub deep : (s : ℕ) → s < r → get_or w.depths s 0 ≡ depth s x l
 
--- the same, as the scratch arrays tell it: found where the walk left within the used length
-abbrev pub found_by : List ℕ → List ℕ → ℕ → Bool
-found_by us ps k = ltb (get_or ps k 0) (get_or us k 0)
+-- all block sizes are looked at
+abbrev pub Looked : Opened → List ℕ → (ℕ → ℕ) → List Walk → Type 0
+Looked v st x ws = (k : ℕ) → k < sizes v.order → Walked (rows v.order) (stack_at v st k) (x k) (walk_of ws k)
 
-abbrev pub deep_by : List ℕ → ℕ → ℕ → ℕ
-deep_by ds k s = get_or ds (k * rows_most + s) 0
+-- found where the walk left within the used length; and the depths there
+abbrev pub found_by : List ℕ → List Walk → ℕ → Bool
+found_by us ws k = ltb (walk_of ws k).place (get_or us k 0)
+
+abbrev pub deep_by : List Walk → ℕ → ℕ → ℕ
+deep_by ws k s = get_or (walk_of ws k).depths s 0
 
 -- the depths of one block size
 abbrev pub depth_in : List ℕ → ℕ → ℕ
@@ -117,21 +122,20 @@ pub record Rows (w m : ℕ) (ds : List ℕ) : Type 0 where
   pub some : 1 ≤ w
   pub falling : Falling (length ds) (depth_in ds)
 
--- the m counts are enough for the order, the depths fall, and no more references are taken than the order has
-pub record Tabled (v : Opened) (m : ℕ) (ps ds : List ℕ) : Type 0 where
+-- the m counts are enough for the order, the depths of each size fall, and no more references are taken than the order has
+pub record Tabled (v : Opened) (m : ℕ) (ws : List Walk) : Type 0 where
   pub numbers : All≤ (limits v.order)
   pub wide : count_need v.order ≤ m
   pub ceiling : v.taken ≤ v.order.refs
-  pub places : length ps ≡ sizes_most
-  pub depths : length ds ≡ sizes_most * rows_most
-  pub falling : (k : ℕ) → k < sizes v.order → Falling (rows v.order) (deep_by ds k)
+  pub long : (k : ℕ) → k < sizes v.order → length (walk_of ws k).depths ≡ rows_most
+  pub falling : (k : ℕ) → k < sizes v.order → Falling (rows v.order) (deep_by ws k)
 
 -- what the walks found decides: a count to be raised is not below the references taken; and the counts after they are raised
-abbrev pub over_by : Opened → List ℕ → List ℕ → List ℕ → Bool
-over_by v ps ds ct = over_groups v.order.ways (rows v.order) (found_by v.used ps) (deep_by ds) v.taken (sizes v.order) ct
+abbrev pub over_by : Opened → List Walk → List ℕ → Bool
+over_by v ws ct = over_groups v.order.ways (rows v.order) (found_by v.used ws) (deep_by ws) v.taken (sizes v.order) ct
 
-abbrev pub raised_by : Opened → List ℕ → List ℕ → List ℕ → List ℕ
-raised_by v ps ds ct = raised_groups v.order.ways (rows v.order) (found_by v.used ps) (deep_by ds) (sizes v.order) ct
+abbrev pub raised_by : Opened → List Walk → List ℕ → List ℕ
+raised_by v ws ct = raised_groups v.order.ways (rows v.order) (found_by v.used ws) (deep_by ws) (sizes v.order) ct
 
 -- no count to be raised in the r rows from row `first` on is at the top of its range
 abbrev pub Raisable : ℕ → ℕ → ℕ → (ℕ → ℕ) → List ℕ → Type 0
@@ -144,17 +148,16 @@ abbrev pub with_lengths : Opened → (ℕ → List ℕ) → ℕ → Opened
 with_lengths v top n = record { order = v.order; taken = v.taken; used = set_lengths top n v.used }
 
 -- at some block size the walk left at room or past it
-abbrev pub full_by : Opened → List ℕ → Bool
-full_by v ps = any_to (sizes v.order) (λ (k : ℕ). leb v.order.room (get_or ps k 0))
+abbrev pub full_by : Opened → List Walk → Bool
+full_by v ws = any_to (sizes v.order) (λ (k : ℕ). leb v.order.room (walk_of ws k).place)
 
 -- at each block size the stack is within room, and the walk left below room
-pub record Roomed (v : Opened) (x : ℕ → ℕ) (st ps : List ℕ) : Type 0 where
+pub record Roomed (v : Opened) (x : ℕ → ℕ) (st : List ℕ) (ws : List Walk) : Type 0 where
   pub numbers : All≤ (limits v.order)
   pub long : stack_need v.order ≤ length st
-  pub places : length ps ≡ sizes_most
   pub used : (k : ℕ) → k < sizes v.order → used_of v k ≤ v.order.room
-  pub below : (k : ℕ) → k < sizes v.order → get_or ps k 0 < v.order.room
-  pub place : (k : ℕ) → k < sizes v.order → get_or ps k 0 ≡ length (above (x k) (stack_at v st k))
+  pub below : (k : ℕ) → k < sizes v.order → (walk_of ws k).place < v.order.room
+  pub place : (k : ℕ) → k < sizes v.order → (walk_of ws k).place ≡ length (above (x k) (stack_at v st k))
 
 -- each block is on top of its stack, and each used length is that of its stack
 pub record Moved (v : Opened) (x : ℕ → ℕ) (st : List ℕ) (v' : Opened) (st' : List ℕ) : Type 0 where

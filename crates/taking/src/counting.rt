@@ -5,7 +5,7 @@ ghost use Rattle.lists.specs.Tests.{any_to};
 ghost use Rattle.taking.specs.Parts.{count_most, Rows, Tabled, Raisable, depth_in, over_by, raised_by};
 
 use crate::Opened;
-use order::Order;
+use crate::references::Walks;
 
 // One more at each of the depths up to `shared`.
 pub(crate) fn bump(depths: &mut [u32], shared: u32)
@@ -20,19 +20,18 @@ pub(crate) fn bump(depths: &mut [u32], shared: u32)
 
 impl Opened {
     // Some count to be raised is not below the references taken.
-    pub(crate) fn is_over(&self, counts: &[u32], places: &[u32], depths: &[u32]) -> bool
-        requires { Tabled self.now (length counts.now) places.now depths.now }
-        ensures { result ≡ over_by self.now places.now depths.now counts.now }
+    pub(crate) fn is_over(&self, counts: &[u32], walks: &Walks) -> bool
+        requires { Tabled self.now (length counts.now) walks.now }
+        ensures { result ≡ over_by self.now walks.now counts.now }
     {
         let rows = self.order.rows();
         let ways = self.order.ways as usize;
         for k in 0..self.order.sizes() {
-            let at = k * Order::ROWS_MOST;
-            if places[k] < self.used[k]
+            if walks[k].place < self.used[k]
                 && size_over(
                     &counts[k * rows * ways..],
                     ways,
-                    &depths[at..at + rows],
+                    &walks[k].depths[..rows],
                     self.taken,
                 )
             {
@@ -43,17 +42,20 @@ impl Opened {
     }
 
     // At every block size where the block is found, one more in each row at its depth.
-    pub(crate) fn raise_all(&self, counts: &mut [u32], places: &[u32], depths: &[u32])
-        requires tabled { Tabled self.now (length counts.old) places.now depths.now }
-        requires none_over { over_by self.now places.now depths.now counts.old ≡ false }
-        ensures { counts.new ≡ raised_by self.now places.now depths.now counts.old }
+    pub(crate) fn raise_all(&self, counts: &mut [u32], walks: &Walks)
+        requires tabled { Tabled self.now (length counts.old) walks.now }
+        requires none_over { over_by self.now walks.now counts.old ≡ false }
+        ensures { counts.new ≡ raised_by self.now walks.now counts.old }
     {
         let rows = self.order.rows();
         let ways = self.order.ways as usize;
         for k in 0..self.order.sizes() {
-            if places[k] < self.used[k] {
-                let at = k * Order::ROWS_MOST;
-                raise(&mut counts[k * rows * ways..], ways, &depths[at..at + rows]);
+            if walks[k].place < self.used[k] {
+                raise(
+                    &mut counts[k * rows * ways..],
+                    ways,
+                    &walks[k].depths[..rows],
+                );
             }
         }
     }

@@ -6,15 +6,22 @@ ghost use Rattle.cache.specs.Cache.{block_of, ref};
 ghost use Rattle.taking.specs.Places.{block_at};
 ghost use Rattle.taking.specs.World.{world};
 ghost use Rattle.taking.specs.Taking.{Takes};
-ghost use Rattle.taking.specs.Parts.{Fit, Blank, wider_by, on_top, Looked};
+ghost use Rattle.taking.specs.Parts.{Fit, wider_by, on_top, Looked};
 
 use crate::counting::{bump, raise_tops, tops_over};
 use crate::{Opened, Reply};
 use order::Order;
 use units::{Addr, BlockNo, Refusal};
 
-// Depths for every block size and s that an order can have.
-const DEPTHS: usize = Order::SIZES_MOST * Order::ROWS_MOST;
+// What the walk over a stack to a block finds: where it left, and for each s how many of the blocks before share its set.
+#[derive(Clone, Copy)]
+pub(crate) struct Walk {
+    pub(crate) place: u32,
+    pub(crate) depths: [u32; Order::ROWS_MOST],
+}
+
+// One for every block size that an order can have.
+pub(crate) type Walks = [Walk; Order::SIZES_MOST];
 
 impl Opened {
     // Takes a reference. Most find their block on top of every stack: there each depth is 0 and nothing moves.
@@ -89,35 +96,36 @@ impl Opened {
             → Takes (world self.old stacks.old counts.old) (ref a) (answer_of result)
             (world self.new stacks.new counts.new) }
     {
-        let mut places = [0u32; Order::SIZES_MOST];
-        let mut depths = [0u32; DEPTHS];
-        self.look(stacks, first, &mut places, &mut depths);
-        if self.is_full(&places) {
+        let walks = self.look(stacks, first);
+        if self.is_full(&walks) {
             return Err(Refusal::StackFull);
         }
-        if self.is_over(counts, &places, &depths) {
+        if self.is_over(counts, &walks) {
             return Err(Refusal::CountOver);
         }
-        self.raise_all(counts, &places, &depths);
-        self.move_all(stacks, &places, first);
+        self.raise_all(counts, &walks);
+        self.move_all(stacks, &walks, first);
         self.taken += 1;
         Ok(())
     }
 
-    // At each block size walks the stack to its block, or to its end: where the walk left, and the depths.
-    fn look(&self, stacks: &[u32], first: BlockNo, places: &mut [u32], depths: &mut [u32])
-        requires { Fit self.now (length stacks.now) (count_need self.now.order) × Blank places.old depths.old }
-        ensures { Looked self.now stacks.now (wider_by first.0) places.new depths.new }
+    // At each block size walks the stack to its block, or to its end.
+    fn look(&self, stacks: &[u32], first: BlockNo) -> Walks
+        requires { Fit self.now (length stacks.now) (count_need self.now.order) }
+        ensures { Looked self.now stacks.now (wider_by first.0) result }
     {
         let sizes = self.order.sizes();
         let rows = self.order.rows();
         let room = self.order.room as usize;
+        let mut walks = [Walk {
+            place: 0,
+            depths: [0; Order::ROWS_MOST],
+        }; Order::SIZES_MOST];
         for (k, used) in self.used[..sizes].iter().enumerate() {
             let x = first.wider(k as u32);
             let base = k * room;
-            let at = k * Order::ROWS_MOST;
             let stack = &stacks[base..base + *used as usize];
-            let deep = &mut depths[at..at + rows];
+            let mut depths = [0; Order::ROWS_MOST];
             // A named form (SCOPE, F5): this loop breaks with the place found, inside the one over block sizes.
             let place = 'walk: {
                 for (i, entry) in stack.iter().enumerate() {
@@ -126,11 +134,15 @@ impl Opened {
                         break 'walk i;
                     }
                     let shared = (x.0 ^ y.0).trailing_zeros();
-                    bump(deep, shared);
+                    bump(&mut depths[..rows], shared);
                 }
                 stack.len()
             };
-            places[k] = place as u32;
+            walks[k] = Walk {
+                place: place as u32,
+                depths,
+            };
         }
+        walks
     }
 }

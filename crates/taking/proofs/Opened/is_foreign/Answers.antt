@@ -23,7 +23,7 @@ found c =
     let n = c.sizes-sizes.result in
     sym
     (any_from_yields_List (ltb v.order.room) _ _ _ c.any.ensures.ran (YieldsList-from_slice (take n v.used) (search rules)) (λ x b q k. search rules)
-    ∙ any_listed (ltb v.order.room) v.used n (omega arith)
+    ∙ any_listed (ltb v.order.room) v.used 0 n (omega arith)
     ∙ ap (λ (n : ℕ). any_to n (λ (k : ℕ). ltb v.order.room (used_of v k))) c.sizes-sizes.ensures)
 
 pub returns-then-any : goal.returns-then-any

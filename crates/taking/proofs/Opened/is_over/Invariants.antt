@@ -5,4 +5,4 @@ use Rattle.taking.proofs.RowLaws.{over_size}
 use Rattle.taking.proofs.Opened.is_over.Given as goal
 
 abbrev pub invariant-loop-k : goal.invariant-loop-k
-invariant-loop-k l = any_to l.k (over_size l.self l.places l.depths l.counts) ≡ false
+invariant-loop-k l = any_to l.k (over_size l.self l.walks l.counts) ≡ false

@@ -7,4 +7,4 @@ use Rattle.taking.proofs.Opened.raise_all.Given as goal
 
 abbrev pub invariant-loop-k : goal.invariant-loop-k
 invariant-loop-k l =
-    l.counts ≡ raised_groups l.self.order.ways (rows l.self.order) (found_by l.self.used l.places) (deep_by l.depths) l.k l.initial.counts
+    l.counts ≡ raised_groups l.self.order.ways (rows l.self.order) (found_by l.self.used l.walks) (deep_by l.walks) l.k l.initial.counts
