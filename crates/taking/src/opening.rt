@@ -33,32 +33,26 @@ impl Opened {
         ensures { Opens order (unopened stacks.old counts.old) (answer_of result)
             (world (result_unwrap_or result (fresh zero_order)) stacks.new counts.new) }
     {
-        if !order.is_within() {
-            return Err(Refusal::OutsideLimits);
-        }
-        let stack_need = order.stack_need();
-        let count_need = order.count_need();
-        if stacks.len() < stack_need {
-            return Err(Refusal::ShortStacks);
-        }
-        if counts.len() < count_need {
-            return Err(Refusal::ShortCounts);
-        }
-        clear(stacks, stack_need);
-        clear(counts, count_need);
-        Ok(Opened {
-            order,
-            taken: 0,
-            used: [0; Order::SIZES_MOST],
-        })
+        let opened = Opened::fresh(order);
+        opened.unfit(stacks.len(), counts.len())?;
+        clear(stacks, order.stack_need());
+        clear(counts, order.count_need());
+        Ok(opened)
     }
 
     // Zeros: no order opened yet, or one refused.
     pub fn none() -> Opened
         ensures { result ≡ fresh zero_order }
     {
+        Opened::fresh(Order::none())
+    }
+
+    // The order with no references taken and every stack empty.
+    fn fresh(order: Order) -> Opened
+        ensures { result ≡ fresh order }
+    {
         Opened {
-            order: Order::none(),
+            order,
             taken: 0,
             used: [0; Order::SIZES_MOST],
         }

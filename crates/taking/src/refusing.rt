@@ -1,4 +1,4 @@
-// The refusals that need no walk (SCOPE, "Refusal numbers"): of a taking, of a flush, and of a question.
+// The refusals that need no walk (SCOPE, "Refusal numbers"): of an opening, a taking, a flush and a question.
 ghost use Rattle.std.specs.Prelude.{◌≡◌, ◌≤◌};
 ghost use Rattle.units.specs.Refusals.{answer_of};
 ghost use Rattle.order.specs.Limits.{sizes, sizes_most};
@@ -40,7 +40,7 @@ impl Opened {
     }
 
     // Refusals 1 to 4, with tables of n and m entries.
-    fn unfit(&self, n: usize, m: usize) -> Result<(), Refusal>
+    pub(crate) fn unfit(&self, n: usize, m: usize) -> Result<(), Refusal>
         ensures { answer_of result ≡ unfit_answer self.now n m }
     {
         if !self.order.is_within() {
