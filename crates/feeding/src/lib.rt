@@ -11,11 +11,13 @@ use lines::LONGEST;
 use reading::{LINES_MOST, Reading};
 use units::Refusal;
 
-// How far the input is read, and the line that has begun: its bytes are the first `len` of the line buffer.
-#[derive(Clone, Copy)]
+// How far the input is read, and the line that has begun: its bytes are the first `len` of the line buffer. (An array, since what is
+// promised is promised of all its bytes, from zeros on, and there is no heap.)
+#[derive(Clone, Copy, Debug, PartialEq, Eq)]
 pub struct Feeding {
     pub reading: Reading,
-    // Where it is not 0 the input is refused at line reading.lines, and no further byte is looked at.
+    // Where it is not 0 the input is refused at line reading.lines, and no further byte is looked at. (A number, since what `feed` and
+    // `ended` promise is promised of every number that a caller may put here.)
     pub answer: u32,
     pub len: u8,
     pub line: [u8; LONGEST],
@@ -49,9 +51,8 @@ impl Feeding {
     pub fn start() -> Feeding
         ensures { result ≡ Feeding·start }
     {
-        let reading = Reading::start();
         Feeding {
-            reading,
+            reading: Reading::start(),
             answer: 0,
             len: 0,
             line: [0; LONGEST],

@@ -14,11 +14,12 @@ use taking::Opened;
 use units::ByteExp;
 use units::refusal::has_column;
 
-// How long a lent buffer must be: the head has 113 bytes at most, and a line of the table 97.
+// How long a lent buffer must be: the head has 113 bytes at most, and a line of the table 97. (In a shorter one the three functions put
+// 0 bytes: callers may lend any, and get a number back.)
 pub const LINE_MOST: usize = 128;
 
 // The caches of an order, in the order of the table: w upward, then s, then b.
-#[derive(Clone, Copy)]
+#[derive(Clone, Copy, Debug, PartialEq, Eq)]
 pub struct Walk {
     order: Order,
     next: Option<Cache>,
@@ -101,7 +102,7 @@ pub fn cache_line(cache: Cache, opened: &Opened, counts: &[u32], out: &mut [u8])
     fill(out, b"b=# s=# w=# misses=#\n", &numbers)
 }
 
-// The refusal, with the column of a trace line that is bad.
+// The refusal, with the column of a trace line that is bad. (By its number, since this is promised of every number.)
 pub fn refusal_line(answer: u32, line: u64, column: u32, out: &mut [u8]) -> usize
     ensures { Prints (refusal_line answer line column) out.old result out.new }
 {
@@ -116,7 +117,8 @@ pub fn refusal_line(answer: u32, line: u64, column: u32, out: &mut [u8]) -> usiz
     fill(out, b"refused=# line=#\n", &numbers)
 }
 
-// Puts a text from `at` on; gives the place after it.
+// Puts a text from `at` on; gives the place after it. (Not by `write!`: it promises its bytes where it returns Ok, and never that it does,
+// while a line is promised in every buffer that has room.)
 fn put(out: &mut [u8], at: usize, text: &[u8]) -> usize
     requires { at + length text.now ≤ length out.old }
     ensures { Puts text.now at out.old result out.new }

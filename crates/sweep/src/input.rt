@@ -7,7 +7,7 @@ use feeding::Feeding;
 use std::io;
 use std::io::Read;
 
-// The bytes that came next: the first `len` of the chunk.
+// The bytes that came next: the first `len` of the chunk. (Both always count: the last bytes are none, or one LF.)
 #[derive(Clone, Copy)]
 struct More {
     // The input has no more.

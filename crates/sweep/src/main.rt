@@ -22,22 +22,18 @@ fn main(rt: HostRuntime) {
         );
         return;
     };
-    let reading = feeding.reading;
-    let answer = feeding.answer;
-    if answer == 0 {
-        if table(&mut rt.stdout(), reading, &counts).is_err() {
+    if feeding.answer == 0 {
+        if table(&mut rt.stdout(), &feeding.reading, &counts).is_err() {
             tell(
                 &mut rt.stderr(),
                 b"sweep: standard output could not be written, so the table is not whole\n",
             );
         }
-    } else {
-        if refused(&mut rt.stdout(), answer, reading.lines, reading.column).is_err() {
-            tell(
-                &mut rt.stderr(),
-                b"sweep: standard output could not be written, so the refusal is not whole\n",
-            );
-        }
+    } else if refused(&mut rt.stdout(), &feeding).is_err() {
+        tell(
+            &mut rt.stderr(),
+            b"sweep: standard output could not be written, so the refusal is not whole\n",
+        );
     }
 }
 
