@@ -68,9 +68,6 @@ module _ {bytes : List ℕ} {f₀ : Feeding} {st₀ ct₀ rest : List ℕ} {f : 
   goes : by_lines.is_over s ≡ false
   goes = ap not (eq-eqb f.answer 0 t.done)
 
-  pub fed_all : length rest ≤ 0 → Feeds f₀ bytes st₀ ct₀ f st ct
-  fed_all h = sym (t.come ∙ ap (fed by_lines (held_by f st ct)) (drop_of_length-le rest {i = 0} h))
-
   pub too_many : 0 < length rest → lines_most ≤ f.reading.lines → (r : Feeding) → RefusesLine f r → Feeds f₀ bytes st₀ ct₀ r st ct
   too_many h e r is =
       is st ct

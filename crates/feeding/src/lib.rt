@@ -3,13 +3,12 @@
 #![tactic(auto)]
 
 ghost use Rattle.std.specs.Prelude.{◌≡◌};
-ghost use Rattle.units.specs.Refusals.{answer_of};
 ghost use Rattle.feeding.specs.Feeding.{start as Feeding·start, Feeds, Ends};
 ghost use Rattle.feeding.specs.Parts.{Copied, EndsLine, RefusesLine};
 
 use lines::LONGEST;
 use reading::{LINES_MOST, Reading};
-use units::Refusal;
+use units::refusal::answer_of;
 
 // How far the input is read, and the line that has begun: its bytes are the first `len` of the line buffer. (An array, since what is
 // promised is promised of all its bytes, from zeros on, and there is no heap.)
@@ -36,16 +35,6 @@ fn copy_line(bytes: &[u8], line: &mut [u8]) -> usize
     n
 }
 
-// The answer number: 0 where nothing is refused.
-fn number(answer: Result<(), Refusal>) -> u32
-    ensures { result ≡ answer_of answer }
-{
-    match answer {
-        Ok(()) => 0,
-        Err(refusal) => u32::from(refusal),
-    }
-}
-
 impl Feeding {
     // Before the first byte: one line buffer, zero-filled at the start, serves order lines and trace lines.
     pub fn start() -> Feeding
@@ -59,8 +48,7 @@ impl Feeding {
         }
     }
 
-    // More bytes of the input. (`step` and this have one call each in the program, so that both are made part of it:
-    // with two, a line costs 60 instructions more.)
+    // More bytes of the input. (`step` and this have one call each in the program, so that both are made part of it.)
     pub fn feed(&mut self, bytes: &[u8], stacks: &mut [u32], counts: &mut [u32])
         ensures { Feeds self.old bytes.now stacks.old counts.old
             self.new stacks.new counts.new }
@@ -99,7 +87,7 @@ impl Feeding {
         let step = self
             .reading
             .step(&self.line[..len as usize], stacks, counts);
-        self.answer = number(step);
+        self.answer = answer_of(&step);
         self.len = 0;
     }
 
@@ -117,6 +105,6 @@ impl Feeding {
         if self.answer != 0 {
             return;
         }
-        self.answer = number(self.reading.ended());
+        self.answer = answer_of(&self.reading.ended());
     }
 }

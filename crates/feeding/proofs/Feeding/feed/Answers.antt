@@ -1,21 +1,15 @@
 -- `feed` meets its contract: each turn takes the bytes of one line, as far as the slice has them. Assumes nothing.
-use Rattle.std.proofs.Common.{◌-◌, rules, refl, sym}
-use Rattle.feeding.proofs.FeedLaws.{refused_stays, fed_all, too_many, slice_ends, no_room, line_refused, line_done}
+use Rattle.std.proofs.Common.{◌-◌, rules, sym}
+use Rattle.feeding.proofs.FeedLaws.{refused_stays, too_many, slice_ends, no_room, line_refused, line_done}
 use Rattle.feeding.proofs.Feeding.feed.Goals as goal
 
 pub returns-then-self-ne0 : goal.returns-then-self-ne0
 returns-then-self-ne0 c =
     let a = c.args in sym (refused_stays a.self.now a.stacks.now a.counts.now a.bytes.now c.if-self-ne0.true)
 
-pub loop-rest-init : goal.loop-rest-init
-loop-rest-init c = record { done = c.if-self-ne0.false; come = refl }
-
 pub returns-then-self-ge-LINES_MOST : goal.returns-then-self-ge-LINES_MOST
 returns-then-self-ge-LINES_MOST c =
     too_many c.loop-rest.invariant (search rules) c.if-self-ge-LINES_MOST.true c.refuse_line.new.self c.refuse_line.ensures
-
-pub returns : goal.returns
-returns c = fed_all c.loop-rest.invariant (search rules)
 
 pub returns-in_default : goal.returns-in_default
 returns-in_default c =
