@@ -94,7 +94,8 @@ pub fn cache_line(cache: Cache, opened: &Opened, counts: &[u32], out: &mut [u8])
     if out.len() < LINE_MOST {
         return 0;
     }
-    let Ok(misses) = opened.misses(counts, cache) else {
+    let counted = opened.misses(counts, cache);
+    let Ok(misses) = counted.answer else {
         return 0;
     };
     let Cache { b, s, w } = cache;

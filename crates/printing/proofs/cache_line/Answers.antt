@@ -16,6 +16,6 @@ returns c =
     let s = a.cache.s in
     let w = a.cache.w in
     let n = c.in-Ok.misses in
-    let given = cache_form_lem b s w n ∙ ap (line_by a.cache) c.in-Ok.ensures in
+    let given = cache_form_lem b s w n ∙ ap (line_by a.cache) (rw c.in-Ok.is at c.misses-counted.ensures) in
     let line = line_at a.opened.now a.counts.now a.cache in
     prints_form a.out.now c.if-out-lt-LINE_MOST.false cache_form (b ∷ s ∷ w ∷ n ∷ []) line given cache_most _ _ c.fill.ensures

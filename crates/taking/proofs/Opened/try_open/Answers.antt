@@ -1,4 +1,4 @@
--- `open` meets its contract: the order just opened is refused as it is to be, or both tables are zeroed. Assumes nothing.
+-- `try_open` meets its contract: the order just opened is refused as it is to be, or both tables are zeroed. Assumes nothing.
 use mathlib.Core.Path.{◌≡◌, sym, ◌∙◌}
 use Rattle.std.proofs.lemmas.Result.{err_from_is_err_and}
 use Rattle.lists.proofs.TestLaws.{all_yes}
@@ -6,7 +6,7 @@ use Rattle.order.specs.Limits.{limits, count_need}
 use Rattle.taking.specs.Opening.{fresh, unopened}
 use Rattle.taking.proofs.NeedLaws.{fit_unfit}
 use Rattle.taking.proofs.OpeningLaws.{unfit_fresh, opens_refused, opens_done}
-use Rattle.taking.proofs.Opened.open.Goals as goal
+use Rattle.taking.proofs.Opened.try_open.Goals as goal
 
 pub returns-in_err-unfit : goal.returns-in_err-unfit
 returns-in_err-unfit c =
