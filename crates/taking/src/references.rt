@@ -125,7 +125,7 @@ impl Opened {
             let x = first.wider(k as u32);
             let base = k * room;
             let stack = &stacks[base..base + *used as usize];
-            let mut depths = [0; Order::ROWS_MOST];
+            let walk = &mut walks[k];
             // A named form (SCOPE, F5): this loop breaks with the place found, inside the one over block sizes.
             let place = 'walk: {
                 for (i, entry) in stack.iter().enumerate() {
@@ -134,14 +134,11 @@ impl Opened {
                         break 'walk i;
                     }
                     let shared = (x.0 ^ y.0).trailing_zeros();
-                    bump(&mut depths[..rows], shared);
+                    bump(&mut walk.depths[..rows], shared);
                 }
                 stack.len()
             };
-            walks[k] = Walk {
-                place: place as u32,
-                depths,
-            };
+            walk.place = place as u32;
         }
         walks
     }
