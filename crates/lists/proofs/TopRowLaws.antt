@@ -1,11 +1,11 @@
--- Rows of counts of which the first goes up, one row or groups of rows in one go; tests over groups; and rows that are written over themselves.
--- Not here: rows whose depths differ (RaiseLaws). Assumes nothing.
+-- Rows of counts of which the first goes up, one row or groups of rows in one go; the rows from one on, cut out of the table and put back, and those
+-- from a first depth of 0 on; tests over groups; and rows that are written over themselves. Not here: the rows of one group cut out (CutLaws).
+-- Assumes nothing.
 use Prim.Native.Nat.{ℕ, zero, suc, ◌+◌, ◌-◌, ◌*◌, ◌<◌, ◌≤◌}
 use mathlib.Core.Path.{◌≡◌, refl, sym, ap, ap₂, ◌∙◌, subst}
 use mathlib.Core.Bool.{Bool, true, false, ◌&&◌, ◌||◌, or-false, or_assoc}
 use mathlib.Core.List.{List, ◌++◌}
 use native.Mathlib.Nat.{add-zero, add-suc, add_assoc, zero-add, zero-mul, suc-mul, add-mul}
-use native.Mathlib.Numerals.{add-one}
 use native.Mathlib.Omega.{arith}
 use lib.Dec.{ltb, leb}
 use lib.ListN.{length, take, drop, get_or, set, take-append-drop}
@@ -13,7 +13,6 @@ use lib.Seq.{set-get_or, length-take-le, get_or-drop, get_or-append-add}
 use borrow.Author.Tests.{lt-ltb}
 use Rattle.lists.specs.Tables.{write_at, written_rows, set_lengths, raise_if, raised_rows, raised_groups, over_row}
 use Rattle.lists.specs.Tests.{any_to}
-use Rattle.lists.proofs.Cases.{cases}
 use Rattle.lists.proofs.RaiseLaws.{raised_past, raised_yes, raised_same}
 use Rattle.lists.proofs.TestLaws.{any_same}
 use Rattle.lists.proofs.WriteLaws.{set_append_add}
@@ -47,7 +46,7 @@ top_raise w s l c e h =
 pub top_past : (w s : ℕ) (l : List ℕ) → get_or (raised_rows w 0 (λ (t : ℕ). 0) s l) (s * w) 0 ≡ get_or l (s * w) 0
 top_past w s l = let e = ap (λ (n : ℕ). n * w) (zero-add s) in raised_past w 0 (λ (t : ℕ). 0) s l (s * w) (omega arith)
 
--- ---- rows cut out of a table: those from row m on, put back behind what stands before them
+-- ---- the rows from row m on, cut out of the table and put back behind what stands before them
 
 raise_if_append : (t : Bool) (i : ℕ) (xs ys : List ℕ) → raise_if t (length xs + i) (xs ++ ys) ≡ xs ++ raise_if t i ys
 raise_if_append true i xs ys =
@@ -58,19 +57,19 @@ raise_if_append false i xs ys = refl
 pub cell_past : (w m s d : ℕ) → m * w + ((0 + s) * w + d) ≡ (m + s) * w + d
 cell_past w m s d = omega (arith, add-mul m s w)
 
-pub raised_cut : (w m : ℕ) (d : ℕ → ℕ) (n : ℕ) (l : List ℕ) → m * w ≤ length l
+pub raised_rest : (w m : ℕ) (d : ℕ → ℕ) (n : ℕ) (l : List ℕ) → m * w ≤ length l
     → take (m * w) l ++ raised_rows w 0 d n (drop (m * w) l) ≡ raised_rows w m d n l
 unfolding raised_rows
-raised_cut w m d zero l h = take-append-drop (m * w) l
-raised_cut w m d (suc n) l h =
+raised_rest w m d zero l h = take-append-drop (m * w) l
+raised_rest w m d (suc n) l h =
     sym (raise_if_append (ltb (d n) w) ((0 + n) * w + d n) (take (m * w) l) (raised_rows w 0 d n (drop (m * w) l)))
     ∙ ap (λ (b : ℕ). raise_if (ltb (d n) w) (b + ((0 + n) * w + d n)) (take (m * w) l ++ raised_rows w 0 d n (drop (m * w) l)))
     (length-take-le (m * w) l h)
     ∙ ap (λ (i : ℕ). raise_if (ltb (d n) w) i (take (m * w) l ++ raised_rows w 0 d n (drop (m * w) l))) (cell_past w m n (d n))
-    ∙ ap (raise_if (ltb (d n) w) ((m + n) * w + d n)) (raised_cut w m d n l h)
+    ∙ ap (raise_if (ltb (d n) w) ((m + n) * w + d n)) (raised_rest w m d n l h)
 
-pub over_cut : (w m : ℕ) (d : ℕ → ℕ) (ceiling : ℕ) (l : List ℕ) (s : ℕ) → over_row w 0 d ceiling (drop (m * w) l) s ≡ over_row w m d ceiling l s
-over_cut w m d ceiling l s =
+pub over_rest : (w m : ℕ) (d : ℕ → ℕ) (ceiling : ℕ) (l : List ℕ) (s : ℕ) → over_row w 0 d ceiling (drop (m * w) l) s ≡ over_row w m d ceiling l s
+over_rest w m d ceiling l s =
     ap (λ (v : ℕ). ltb (d s) w && leb ceiling v)
     (get_or-drop (m * w) l ((0 + s) * w + d s) 0 ∙ ap (λ (i : ℕ). get_or l i 0) (cell_past w m s (d s)))
 
@@ -150,7 +149,7 @@ module _ (w : ℕ) (d : ℕ → ℕ) (l : List ℕ) (s n : ℕ) (h : s ≤ n)
   pub raised_tops : (c : List ℕ) → c ≡ raised_rows w 0 d s l → s * w ≤ length c
       → take (s * w) c ++ raised_rows w 0 (λ (t : ℕ). 0) (n - s) (drop (s * w) c) ≡ raised_rows w 0 d n l
   raised_tops c e g =
-      raised_cut w s (λ (t : ℕ). 0) (n - s) c g
+      raised_rest w s (λ (t : ℕ). 0) (n - s) c g
       ∙ raised_same w s (λ (t : ℕ). 0) (λ (t : ℕ). d (s + t)) (n - s) c (λ t g. sym (flat t g))
       ∙ ap₂ (λ (m : ℕ) (q : List ℕ). raised_rows w m (λ (t : ℕ). d (s + t)) (n - s) q) (sym (zero-add s)) e
       ∙ sym (raised_split w 0 d s (n - s) l)

@@ -1,14 +1,13 @@
 -- Laws of `zeroed` and `values_to`: lengths, what is read, what stays; a table whose first entries are known.
 -- Assumes nothing.
-use Prim.Native.Nat.{ℕ, zero, suc, ◌+◌, ◌-◌, ◌≤◌, ◌<◌, min}
+use Prim.Native.Nat.{ℕ, zero, suc, ◌+◌, ◌≤◌, ◌<◌, min}
 use mathlib.Core.Path.{◌≡◌, refl, sym, ap, ap₂, ◌∙◌}
 use mathlib.Core.List.{List, [], ◌∷◌, ◌++◌}
 use native.Mathlib.Omega.{arith}
 use lib.ListN.{length, take, drop, get_or, replicate, length-replicate}
 use lib.Seq.{ext_get_or}
-use Rattle.lists.specs.Tables.{zeroed, values_to, part, write_at}
+use Rattle.lists.specs.Tables.{zeroed, values_to, part}
 use Rattle.lists.proofs.PartLaws.{part_at, length_part}
-use Rattle.lists.proofs.WriteLaws.{put_writes}
 
 pub zeros_at : (n i : ℕ) → ◌≡◌ {A = ℕ} (get_or (replicate n 0) i 0) 0
 zeros_at zero i = refl

@@ -16,7 +16,7 @@ use Rattle.lists.proofs.PartLaws.{row_in, rows_le}
 use Rattle.lists.proofs.BoolLaws.{and_false_of}
 use Rattle.lists.proofs.RaiseLaws.{raised_same, groups_past}
 use Rattle.lists.proofs.TestLaws.{any_same, any_not}
-use Rattle.lists.proofs.TopRowLaws.{cell_past, over_cut, raised_cut}
+use Rattle.lists.proofs.TopRowLaws.{cell_past, over_rest, raised_rest}
 use Rattle.order.specs.Limits.{sizes, rows}
 use Rattle.taking.specs.Parts.{Rows, Tabled, Raisable, depth_in, walk_of, deep_by, found_by, over_by}
 use Rattle.taking.specs.declared.Opened.{Opened}
@@ -66,7 +66,7 @@ module _ (v : Opened) (m : ℕ) (ws : List Walk) (k : ℕ) (t : Tabled v m ws) (
       ∙ any_same (rows v.order) (over_row v.order.ways 0 (depth_in depths) v.taken (drop start ct))
       (over_row v.order.ways (k * rows v.order) (deep_by ws k) v.taken ct)
       (λ s g.
-      over_cut v.order.ways (k * rows v.order) (depth_in depths) v.taken ct s
+      over_rest v.order.ways (k * rows v.order) (depth_in depths) v.taken ct s
       ∙ ap (λ (d : ℕ). ltb d v.order.ways && leb v.taken (get_or ct ((k * rows v.order + s) * v.order.ways + d) 0)) (deep s g))
 
   pub raised_there : (ct : List ℕ) → length ct ≡ m
@@ -74,7 +74,7 @@ module _ (v : Opened) (m : ℕ) (ws : List Walk) (k : ℕ) (t : Tabled v m ws) (
       ≡ raised_rows v.order.ways (k * rows v.order) (deep_by ws k) (rows v.order) ct
   raised_there ct e =
       ap (λ (n : ℕ). take start ct ++ raised_rows v.order.ways 0 (depth_in depths) n (drop start ct)) long
-      ∙ raised_cut v.order.ways (k * rows v.order) (depth_in depths) (rows v.order) ct (omega (arith, inside))
+      ∙ raised_rest v.order.ways (k * rows v.order) (depth_in depths) (rows v.order) ct (omega (arith, inside))
       ∙ raised_same v.order.ways (k * rows v.order) (depth_in depths) (deep_by ws k) (rows v.order) ct deep
 
   -- where no count of the table is over, each to be raised there can go up by one, also once those of the sizes before are raised, in c
