@@ -2,7 +2,6 @@
 -- Assumes nothing.
 use Prim.Native.Nat.{ℕ, suc, ◌+◌, ◌*◌, ◌<◌}
 use Prim.Native.Char.{code}
-use mathlib.Core.Path.{◌≡◌, subst}
 use mathlib.Core.Bool.{◌&&◌}
 use mathlib.Core.List.{List, [], ◌∷◌}
 use native.Mathlib.Omega.{arith}
@@ -12,7 +11,7 @@ use Rattle.lists.proofs.Cases.{picked}
 use Rattle.units.specs.declared.Addr.{Addr}
 use Rattle.units.specs.Refusals.{bad_order_line, bad_label, bad_gap, bad_address, too_long}
 use Rattle.lines.specs.Bytes.{between, is_blank, is_hex, hex_value, longest, past_longest}
-use Rattle.lines.specs.TraceLine.{BadLine, TraceLine, Ref, Escape, Refused as BadTrace, bad_at, labelled, at_label, at_gap, in_gap, in_address, trace_line_of}
+use Rattle.lines.specs.TraceLine.{TraceLine, Ref, Escape, bad_at, labelled, at_label, at_gap, in_gap, in_address, trace_line_of}
 use Rattle.lines.specs.OrderLine.{OrderLine, Refused, value_of, after, is_numbered, is_whole, number_lines, whole_lines, numbered, whole, order_line_of}
 use Rattle.lines.specs.declared.Kind.{Kind}
 use Rattle.lines.specs.declared.Kind.TheVariants.{Read, Write, Fetch, Unknown}
@@ -94,14 +93,3 @@ module _ (P : TraceLine → Type 0) (ref : (kind : Kind) (a : Addr) → P (Ref k
     pub trace_cases : P (bad_at too_long past_longest) → (line : List ℕ) → P (trace_line_of line)
     unfolding trace_line_of
     trace_cases long line = picked P (ltb longest (length line)) (λ e. long) (λ e. label_cases line)
-
--- so the number of a line that is refused is not 0
-abbrev NotDone : TraceLine → Type 0
-NotDone (Ref kind a) = Unit {0}
-NotDone Escape = Unit {0}
-NotDone (BadTrace bad) = bad.number ≡ 0 → ⊥
-
-pub bad_not_done : (line : List ℕ) (bad : BadLine) → trace_line_of line ≡ BadTrace bad → bad.number ≡ 0 → ⊥
-bad_not_done line bad e =
-    subst NotDone e
-    (trace_cases NotDone (λ kind a. tt) tt (λ z. omega arith) (λ z. omega arith) (λ k h z. omega arith) (λ z. omega arith) line)

@@ -2,7 +2,7 @@
 -- Not here: tests in a row (TestLaws). Assumes nothing.
 use Prim.Native.Nat.{ℕ, ◌≤◌, ◌<◌, min}
 use mathlib.Core.Path.{◌≡◌, sym, ◌∙◌}
-use mathlib.Core.Bool.{true, false, ◌&&◌, false≢true, and-false}
+use mathlib.Core.Bool.{true, false, ◌&&◌, false≢true}
 use native.Mathlib.Omega.{arith}
 use lib.Dec.{ltb, leb}
 use borrow.Author.Tests.{lt-ltb, le-ltb, leb-true, leb-false, le-leb, lt-leb}
@@ -23,15 +23,6 @@ range_facts low high c h =
     cases (leb low c)
     (λ e. (leb-true low c e, leb-true c high (simp e at h)))
     (λ e. absurd (false≢true (simp e at h)))
-
-pub range_yes : (low high c : ℕ) → low ≤ c → c ≤ high → leb low c && leb c high ≡ true
-range_yes low high c l h = simp (le-leb low c l, le-leb c high h)
-
-pub range_below : (low high c : ℕ) → c < low → leb low c && leb c high ≡ false
-range_below low high c h = simp (lt-leb low c h)
-
-pub range_above : (low high c : ℕ) → high < c → leb low c && leb c high ≡ false
-range_above low high c h = simp (lt-leb c high h, and-false)
 
 -- ---- a number cut off at `most` is within a smaller limit exactly where the number itself is, from above and from below
 
