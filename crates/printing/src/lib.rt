@@ -6,7 +6,7 @@ ghost use Rattle.std.specs.Prelude.{◌≡◌, ◌+◌, ◌≤◌, length};
 ghost use Rattle.std.specs.Iterator.{YieldsFirst, item_count};
 ghost use Rattle.printing.specs.Printed.{decimal_of, head_lines, line_at, refusal_line};
 ghost use Rattle.printing.specs.Forms.{filled, most, Puts, Prints};
-ghost use Rattle.printing.specs.Grid.{grid_of, next_cache, caches_left};
+ghost use Rattle.printing.specs.Grid.{grid_of, first_cache, next_cache, caches_left};
 
 use order::{Cache, Order};
 use reading::Tally;
@@ -21,14 +21,16 @@ pub const LINE_MOST: usize = 128;
 // The caches of an order, in the order of the table: w upward, then s, then b.
 #[derive(Clone, Copy, Debug, PartialEq, Eq)]
 pub struct Walk {
-    order: Order,
-    next: Option<Cache>,
+    pub order: Order,
+    // The cache that comes next, or that none does.
+    pub next: Option<Cache>,
 }
 
 impl Walk {
     // Over all of them.
     pub fn over(order: Order) -> Walk
-        ensures { caches_left result ≡ grid_of order }
+        ensures first { result.next ≡ first_cache order }
+        ensures all { caches_left result ≡ grid_of order }
     {
         let first = Cache {
             b: order.bmin,
@@ -56,8 +58,8 @@ impl Iterator for Walk {
     }
 }
 
-// The next cache.
-fn cache_after(order: Order, cache: Cache) -> Option<Cache>
+// The next cache of an order after any other.
+pub fn cache_after(order: Order, cache: Cache) -> Option<Cache>
     ensures { result ≡ next_cache order cache }
 {
     let Cache { b, s, w } = cache;

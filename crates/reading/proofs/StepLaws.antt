@@ -2,6 +2,7 @@
 -- Assumes nothing.
 use Prim.Native.Nat.{ℕ, ◌≤◌, ◌<◌}
 use mathlib.Core.Path.{◌≡◌, sym, ap, ap₂, ◌∙◌}
+use mathlib.Core.Bool.{Bool, true, cond}
 use mathlib.Core.List.{List}
 use native.Mathlib.Omega.{arith}
 use lib.Dec.{eqb}
@@ -12,16 +13,20 @@ use Rattle.lists.proofs.TestLaws.{settled_done, settled_not}
 use Rattle.order.specs.declared.Order.{Order}
 use Rattle.taking.specs.World.{World}
 use Rattle.taking.specs.Opening.{open_answer, opened, unopened, Opens}
+use Rattle.cache.specs.Cache.{ref}
+use Rattle.units.specs.declared.Addr.{Addr}
 use Rattle.units.specs.Refusals.{number_of}
 use Rattle.units.specs.declared.refusal.Refusal.{Refusal}
 use Rattle.units.specs.declared.refusal.Refusal.TheVariants.{OutsideLimits, ShortStacks, ShortCounts, ForeignState, RefsReached, StackFull, CountOver, NotInOrder, NoReferences, BadOrderLine, ShortFilter, ShortOutput, BadLabel, BadGap, BadAddress, TooLong, TooManyLines}
 use Rattle.lines.specs.Bytes.{longest}
-use Rattle.lines.specs.TraceLine.{trace_line_of}
-use Rattle.lines.specs.OrderLine.{order_line_of}
+use Rattle.lines.specs.TraceLine.{Ref, trace_line_of}
+use Rattle.lines.specs.declared.Kind.{Kind}
+use Rattle.lines.specs.OrderLine.{order_line_of, counts_kind}
 use Rattle.reading.specs.Reading.{kinds_next, begin_next, trace_next, with_stage, with_reading, world_of, with_world}
 use Rattle.reading.specs.Reading.{Desk, desk, outcome, stays}
 use Rattle.reading.specs.Head.{begun, begin_at, order_of, opening}
-use Rattle.reading.specs.Step.{in_trace, is_too_many, step_of, long_line}
+use Rattle.reading.specs.Meaning.{gives, skips, meant}
+use Rattle.reading.specs.Step.{trace_step, in_trace, is_too_many, step_of, long_line}
 
 -- no refusal has the number 0
 pub refused_not_done : (refusal : Refusal) → number_of refusal ≡ 0 → ⊥
@@ -90,3 +95,8 @@ long_line_is_step d line h =
     cases (is_too_many d.reading)
     (λ e. simp e)
     (λ e. cases (in_trace d.reading) (λ f. simp (e, f, long)) (λ f. simp (e, f, long)))
+
+-- a reference, by whether its kind is counted
+pub counted_step : (d : Desk) (kind : Kind) (a : Addr) → counts_kind d.reading.head.kinds kind ≡ true
+    → trace_step d (gives (ref a.0)) ≡ trace_step d (meant d.reading.head.kinds (Ref kind a))
+counted_step d kind a e = ap (λ (t : Bool). trace_step d (cond t (gives (ref a.0)) skips)) (sym e)

@@ -11,7 +11,7 @@ use Rattle.lists.specs.Tests.{any_to}
 use Rattle.lists.proofs.BoolLaws.{or_none, or_both}
 use Rattle.lists.proofs.PartLaws.{row_in}
 use Rattle.lists.proofs.TestLaws.{all_facts, all_yes, none_first, any_not, any_none_of}
-use Rattle.order.specs.Limits.{limits, within, sizes, stack_need, count_need}
+use Rattle.order.specs.Limits.{limits, within, sizes, rows, sizes_most, rows_most, stack_need, count_need}
 use Rattle.taking.specs.Places.{used_of}
 use Rattle.taking.specs.Taking.{is_foreign, some_size, take_answer}
 use Rattle.taking.specs.World.{World}
@@ -27,6 +27,11 @@ stack_fits v n m k f h = omega (arith, row_in k (sizes v.order) v.order.room h, 
 -- the stack of size k is above room
 abbrev too_long : Opened → ℕ → Bool
 too_long v k = ltb v.order.room (used_of v k)
+
+-- the counts of an order that fits
+pub grid_of_lem : (v : Opened) (n m : ℕ) → Fit v n m
+    → (sizes v.order ≤ sizes_most) × (rows v.order ≤ rows_most) × (1 ≤ v.order.ways) × (sizes v.order * rows v.order * v.order.ways ≤ m)
+grid_of_lem v n m f = omega (arith, f.numbers, f.wide)
 
 -- what refusals 1 to 4 leave
 pub fit_past : (v : Opened) (n m : ℕ) → within v.order ≡ true → ltb n (stack_need v.order) ≡ false → ltb m (count_need v.order) ≡ false

@@ -2,5 +2,5 @@
 use Rattle.printing.proofs.WalkLaws.{all_left}
 use Rattle.printing.proofs.Walk.over.Goals as goal
 
-pub returns : goal.returns
-returns c = all_left c.args.order
+pub returns-clause-all : goal.returns-clause-all
+returns-clause-all c = all_left c.args.order
