@@ -1,6 +1,6 @@
 -- `decimal_number` meets its contract: each test that fails is one of the definition's, and the loop has read all digits. Assumes nothing.
 use Prim.Native.Nat.{ℕ, ◌+◌, ◌*◌, ◌-◌, ◌≤◌, min}
-use mathlib.Core.Path.{◌≡◌, refl, sym, ap, ◌∙◌}
+use mathlib.Core.Path.{◌≡◌, sym, ap, ◌∙◌}
 use native.Mathlib.Omega.{arith}
 use lib.ListN.{length, get_or}
 use Rattle.std.specs.Prelude.{Some}
@@ -18,9 +18,6 @@ returns-then-is_empty c =
 
 pub returns-then-digits-gt1 : goal.returns-then-digits-gt1
 returns-then-digits-gt1 c = sym (number_zeros _ (omega arith) c.if-digits-eq48.true (omega arith))
-
-pub loop-b-init : goal.loop-b-init
-loop-b-init c = (refl, (0, refl, refl))
 
 pub returns-then-not-is_ascii_digit : goal.returns-then-not-is_ascii_digit
 returns-then-not-is_ascii_digit c =

@@ -1,18 +1,16 @@
 -- `hex_digits` meets its contract. Assumes nothing.
-use Prim.Native.Nat.{ℕ, ◌+◌, ◌*◌, ◌^◌, ◌≤◌, ◌<◌, min}
+use Prim.Native.Nat.{ℕ, ◌+◌, ◌*◌, ◌^◌, ◌<◌, min}
 use mathlib.Core.Path.{◌≡◌, sym, ap, ◌∙◌}
-use mathlib.Core.Bool.{true, and-false}
+use mathlib.Core.Bool.{true}
 use mathlib.Core.List.{List}
-use native.Mathlib.Nat.{add-zero}
 use native.Mathlib.Numerals.{add-one}
 use native.Mathlib.Omega.{arith}
 use lib.ListN.{length, take, get_or}
-use borrow.Author.Tests.{le-ltb}
 use Rattle.std.proofs.lemmas.List.{get_or-take, length-take}
 use Rattle.lists.proofs.BitLaws.{numeral_more, numeral_fits}
 use Rattle.lines.specs.Bytes.{is_hex, hex_value}
 use Rattle.lines.specs.Parts.{hex_digit}
-use Rattle.lines.proofs.ByteLaws.{digit_told, no_digit_told}
+use Rattle.lines.proofs.ByteLaws.{digit_told}
 use Rattle.lines.proofs.TraceLaws.{address_more}
 use Rattle.lines.proofs.hex.hex_digits.Goals as goal
 use Rattle.lines.proofs.hex.hex_digits.Goals.{In-Some}
@@ -40,20 +38,6 @@ fits c =
     let at = next c.args.bytes.now c.min.result l.count c.min.ensures c.loop-count-test.true in
     numeral_fits 16 8 l.count l.value c.in-Some.digit l.invariant.0 (told c).2 at.1
 
-pub loop-count-init : goal.loop-count-init
-loop-count-init c = (omega arith, λ label k. simp add-zero)
-
-pub returns-in_default : goal.returns-in_default
-returns-in_default c =
-    let l = c.loop-count in
-    let byte = get_or c.args.bytes.now l.count 0 in
-    let at = next c.args.bytes.now c.min.result l.count c.min.ensures c.loop-count-test.true in
-    let other = no_digit_told byte (sym c.in_default.is ∙ c.hex_digit.ensures ∙ ap hex_digit at.2) in
-    record { within = omega arith; goes_on = λ label k. l.invariant.1 label k; ended = λ h. simp other }
-
-pub overflow_mul-value : goal.overflow_mul-value
-overflow_mul-value c = omega (arith, fits c)
-
 pub overflow_add-value : goal.overflow_add-value
 overflow_add-value c = omega (arith, fits c)
 
@@ -70,15 +54,3 @@ loop-count-preserved c =
           let more = address_more label l.count l.value (k + l.count) c.args.bytes.now l.count at.0 t.0 at.1 in
           cc,
     )
-
-pub returns : goal.returns
-returns c =
-    let l = c.loop-count in
-    let bytes = c.args.bytes.now in
-    let stop : length (take c.min.result bytes) ≡ min (length bytes) 8 = simp length-take (omega arith) in
-    let last : l.count ≡ length (take c.min.result bytes) = omega arith in
-    rw (← last) record {
-      within = omega arith;
-      goes_on = λ label k. l.invariant.1 label k;
-      ended = λ h. let at_8 : 8 ≤ l.count = omega arith in simp (le-ltb l.count 8 at_8, and-false);
-    }
