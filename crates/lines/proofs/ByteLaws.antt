@@ -7,7 +7,7 @@ use lib.Dec.{leb}
 use borrow.Author.Tests.{ne_eqb}
 use Rattle.lists.proofs.Cases.{cases}
 use Rattle.lists.proofs.CompareLaws.{range_facts}
-use Rattle.std.specs.Prelude.{Some, None}
+use Rattle.std.specs.Prelude.{Some}
 use Rattle.lines.specs.Bytes.{is_blank, is_hex, hex_value}
 use Rattle.lines.specs.Parts.{hex_digit}
 
@@ -25,12 +25,9 @@ hex_no_blank c h =
     let f = hex_facts c h in
     simp (ne_eqb c 32 (λ e. omega arith), ne_eqb c 9 (λ e. omega arith))
 
--- what was read of one byte
+-- a digit that was read of one byte
 pub digit_told : (c d : ℕ) → Some d ≡ hex_digit c → (is_hex c ≡ true) × (d ≡ hex_value c) × (d < 16)
 digit_told c d h =
     cases (is_hex c)
     (λ e. let some = simp e at h in let value : d ≡ hex_value c = cc in (e, value, omega (arith, hex_facts c e)))
     (λ e. let none = simp e at h in cc)
-
-pub no_digit_told : (c : ℕ) → None ≡ hex_digit c → is_hex c ≡ false
-no_digit_told c h = cases (is_hex c) (λ e. let some = simp e at h in cc) (λ e. e)
