@@ -1,5 +1,5 @@
 -- The forms filled in are the lines, and a buffer with room for the longest line has room for each. Assumes nothing.
-use Prim.Native.Nat.{ℕ, ◌≤◌, ◌<◌}
+use Prim.Native.Nat.{ℕ, ◌≤◌}
 use mathlib.Core.Path.{◌≡◌, refl, sym, ap, ◌∙◌, subst}
 use mathlib.Core.Bool.{Bool, true, false, cond}
 use mathlib.Core.List.{List, [], ◌∷◌}
@@ -7,8 +7,7 @@ use native.Mathlib.Omega.{arith}
 use lib.Dec.{leb}
 use lib.ListN.{length}
 use lib.Seq.{length-take-le}
-use borrow.Author.Tests.{le-leb, lt-leb}
-use Rattle.lists.proofs.Cases.{picked}
+use borrow.Author.Tests.{le-leb}
 use Rattle.units.specs.Refusals.{has_column}
 use Rattle.lines.specs.Bytes.{text}
 use Rattle.printing.specs.Printed.{fields_after, cache_line, refusal_line}
@@ -53,22 +52,6 @@ column_most = omega arith
 -- ---- a line put into a lent buffer
 
 module _ (out : List ℕ) where
-  pub prints_none : length out < line_most → (bytes : List ℕ) → Prints bytes out 0 out
-  prints_none h bytes =
-      let short : cond (leb line_most (length out)) bytes [] ≡ [] = ap (λ (t : Bool). cond t bytes []) (lt-leb line_most (length out) h) in
-      record {
-        puts = subst (λ (l : List ℕ). Puts l 0 out 0 out) (sym short) (record { end = refl; written = refl });
-        counts = (omega arith, refl);
-      }
-
-  pub prints_nothing : Prints [] out 0 out
-  prints_nothing = record {
-    puts = picked (λ (l : List ℕ). Puts l 0 out 0 out) (leb line_most (length out))
-        (λ t. record { end = refl; written = refl })
-        (λ t. record { end = refl; written = refl });
-    counts = (omega arith, refl);
-  }
-
   -- a form, filled in from the start of the buffer on
   pub prints_form : line_most ≤ length out → (form numbers bytes : List ℕ) → filled form numbers ≡ bytes → most form ≤ line_most
       → (r : ℕ) (out' : List ℕ) → Puts (filled form numbers) 0 out r out' → Prints bytes out r out'

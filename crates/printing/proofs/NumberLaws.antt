@@ -59,7 +59,7 @@ digits_are (suc k) n =
 pub decimal_is : (n k : ℕ) → IsDigitCount 10 1 n k → k ≤ 20 → last_digits 10 k n ≡ decimal_of n
 decimal_is n k f h = digits_are k n ∙ ap (λ (x : ℕ). digits_of x n) (sym (fewest_from 19 1 n k f (omega arith) f.0 (omega arith)))
 
-pub length_digits : (k n : ℕ) → length (last_digits 10 k n) ≡ k
+length_digits : (k n : ℕ) → length (last_digits 10 k n) ≡ k
 length_digits zero n = refl
 length_digits (suc k) n = omega (arith, length-append (last_digits 10 k (n / 10)) (hex_digit_ascii (n % 10) ∷ []), length_digits k (n / 10))
 

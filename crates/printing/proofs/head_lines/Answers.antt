@@ -7,7 +7,7 @@ use Rattle.lines.specs.Bytes.{text}
 use Rattle.reading.specs.declared.Tally.{Tally}
 use Rattle.printing.specs.Printed.{decimal_of, fields_after, head_lines}
 use Rattle.printing.specs.Forms.{filled, most, line_most}
-use Rattle.printing.proofs.FormLaws.{prints_none, prints_form}
+use Rattle.printing.proofs.FormLaws.{prints_form}
 use Rattle.printing.proofs.head_lines.Goals as goal
 
 abbrev head_form : List ℕ
@@ -31,9 +31,6 @@ head_form_lem refs tally = sym (heads (decimal_of 2) (decimal_of refs) (decimal_
 head_most : most head_form ≤ line_most
 unfolding most
 head_most = omega arith
-
-pub returns-then-out-lt-LINE_MOST : goal.returns-then-out-lt-LINE_MOST
-returns-then-out-lt-LINE_MOST c = let a = c.args in prints_none a.out.now c.if-out-lt-LINE_MOST.true (head_lines a.refs a.tally)
 
 pub fill-requires : goal.fill-requires
 fill-requires c = let wide = c.if-out-lt-LINE_MOST.false in omega (arith, head_most)

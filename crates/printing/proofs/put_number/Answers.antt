@@ -1,20 +1,11 @@
 -- `put_number` meets its contract: what `io::decimal` puts is the decimal of the number. Assumes nothing.
 use Prim.Native.Nat.{ℕ}
-use mathlib.Core.Path.{ap, ◌∙◌, subst}
+use mathlib.Core.Path.{◌∙◌, subst}
 use mathlib.Core.List.{List}
-use native.Mathlib.Omega.{arith}
-use lib.ListN.{length}
 use Rattle.printing.specs.Forms.{Puts}
-use Rattle.printing.proofs.NumberLaws.{decimal_is, few_places, length_digits}
+use Rattle.printing.proofs.NumberLaws.{decimal_is, few_places}
 use borrow.Author.Rules.{rules}
 use Rattle.printing.proofs.put_number.Goals as goal
-
-pub put-requires : goal.put-requires
-put-requires c =
-    let d = c.decimal-k in
-    let a = c.args in
-    let few = few_places a.n d.result d.ensures.len (search rules) in
-    omega (arith, ap length d.ensures.digits ∙ length_digits d.result a.n)
 
 pub returns : goal.returns
 returns c =

@@ -3,11 +3,8 @@ use mathlib.Core.Path.{sym, ◌∙◌}
 use mathlib.Core.List.{[], ◌∷◌}
 use native.Mathlib.Omega.{arith}
 use Rattle.printing.specs.Printed.{refusal_line}
-use Rattle.printing.proofs.FormLaws.{refusal_form, refusal_form_lem, refusal_most, column_form, column_form_lem, column_most, prints_none, prints_form}
+use Rattle.printing.proofs.FormLaws.{refusal_form, refusal_form_lem, refusal_most, column_form, column_form_lem, column_most, prints_form}
 use Rattle.printing.proofs.refusal_line.Goals as goal
-
-pub returns-then-out-lt-LINE_MOST : goal.returns-then-out-lt-LINE_MOST
-returns-then-out-lt-LINE_MOST c = let a = c.args in prints_none a.out.now c.if-out-lt-LINE_MOST.true (refusal_line a.answer a.line a.column)
 
 pub fill-requires : goal.fill-requires
 fill-requires c = let wide = c.if-out-lt-LINE_MOST.false in omega (arith, column_most)
