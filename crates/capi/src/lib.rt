@@ -1,6 +1,7 @@
 // The library's calls for C and Rust: numbers, slices and references to what has a fixed size. A slice
 // crosses as a pointer and then a length; a state, as a pointer to 15 numbers: bmin, bmax, smax, ways, room,
 // refs, the references taken, and the used length of each stack. include/kkaeduron.h declares these functions.
+// Answers are numbers here, and zeros stand beside a refusal, since this is the interface of C.
 #![tactic(auto)]
 
 ghost use Rattle.std.specs.Prelude.{ℕ, ◌≡◌, List};

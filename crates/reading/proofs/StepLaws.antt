@@ -15,9 +15,6 @@ use Rattle.taking.specs.World.{World}
 use Rattle.taking.specs.Opening.{open_answer, opened, unopened, Opens}
 use Rattle.cache.specs.Cache.{ref}
 use Rattle.units.specs.declared.Addr.{Addr}
-use Rattle.units.specs.Refusals.{number_of}
-use Rattle.units.specs.declared.refusal.Refusal.{Refusal}
-use Rattle.units.specs.declared.refusal.Refusal.TheVariants.{OutsideLimits, ShortStacks, ShortCounts, ForeignState, RefsReached, StackFull, CountOver, NotInOrder, NoReferences, BadOrderLine, ShortFilter, ShortOutput, BadLabel, BadGap, BadAddress, TooLong, TooManyLines}
 use Rattle.lines.specs.Bytes.{longest}
 use Rattle.lines.specs.TraceLine.{Ref, trace_line_of}
 use Rattle.lines.specs.declared.Kind.{Kind}
@@ -27,26 +24,6 @@ use Rattle.reading.specs.Reading.{Desk, desk, outcome, stays}
 use Rattle.reading.specs.Head.{begun, begin_at, order_of, opening}
 use Rattle.reading.specs.Meaning.{gives, skips, meant}
 use Rattle.reading.specs.Step.{trace_step, in_trace, is_too_many, step_of, long_line}
-
--- no refusal has the number 0
-pub refused_not_done : (refusal : Refusal) → number_of refusal ≡ 0 → ⊥
-refused_not_done OutsideLimits = λ e. omega arith
-refused_not_done ShortStacks = λ e. omega arith
-refused_not_done ShortCounts = λ e. omega arith
-refused_not_done ForeignState = λ e. omega arith
-refused_not_done RefsReached = λ e. omega arith
-refused_not_done StackFull = λ e. omega arith
-refused_not_done CountOver = λ e. omega arith
-refused_not_done NotInOrder = λ e. omega arith
-refused_not_done NoReferences = λ e. omega arith
-refused_not_done BadOrderLine = λ e. omega arith
-refused_not_done ShortFilter = λ e. omega arith
-refused_not_done ShortOutput = λ e. omega arith
-refused_not_done BadLabel = λ e. omega arith
-refused_not_done BadGap = λ e. omega arith
-refused_not_done BadAddress = λ e. omega arith
-refused_not_done TooLong = λ e. omega arith
-refused_not_done TooManyLines = λ e. omega arith
 
 module _ (d : Desk) (n : ℕ) (w : World) (t : Opens (order_of d.reading) (unopened d.stacks d.counts) n w) where
   abbrev o : Order

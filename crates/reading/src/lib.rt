@@ -43,7 +43,7 @@ pub struct Tally {
 pub struct Reading {
     // Lines read so far; at a refusal, the number of its line.
     pub lines: u64,
-    // At the refusal of a bad line of the trace, its column; else 0.
+    // At the refusal of a bad line of the trace, its column; else 0. (A number, since `step` and `long_line` promise what is left of every one.)
     pub column: u32,
     // What comes next.
     pub stage: u32,
@@ -88,6 +88,7 @@ impl Reading {
         if self.lines > LINES_MOST {
             return Err(Refusal::TooManyLines);
         }
+        // Two kinds of lines, and the stage tells which. (A closure kept for the next line would be a state that no contract names.)
         if self.stage == stage::TRACE {
             self.trace_step(line, stacks, counts)
         } else {

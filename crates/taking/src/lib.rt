@@ -14,7 +14,8 @@ mod rating;
 mod references;
 mod refusing;
 
-// The opened order: the order's numbers, the references taken, and the used length of each stack.
+// The opened order: the order's numbers, the references taken, and the used length of each stack. (An array of the most there can be, since
+// there is no heap, and C lends a state of as many numbers.)
 #[derive(Clone, Copy, Debug, PartialEq, Eq)]
 pub struct Opened {
     pub order: Order,

@@ -1,1 +1,2 @@
+pub mod RefusalLaws
 pub mod ShiftLaws

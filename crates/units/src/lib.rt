@@ -67,7 +67,7 @@ impl ByteExp {
 }
 
 impl WordExp {
-    // The same block size, counted in bytes.
+    // The same block size, counted in bytes. (No `From`: the largest exponents all become the largest, so nothing leads back.)
     pub fn in_bytes(self) -> ByteExp
         ensures { result.0 ≡ bytes_of self.0 }
     {

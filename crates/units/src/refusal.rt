@@ -58,7 +58,8 @@ pub fn answer_of<T>(called: &Result<T, Refusal>) -> u32
     }
 }
 
-// 14 to 17, which a trace line is refused with: they alone are told with a column.
+// 14 to 17, which a trace line is refused with: they alone are told with a column. (Of a number, since it is promised of every number, as the
+// printed refusal is.)
 pub fn has_column(answer: u32) -> bool
     ensures { result ≡ has_column answer }
 {

@@ -11,7 +11,8 @@ use Rattle.taking.specs.Opening.{Opens}
 use Rattle.taking.proofs.OpeningLaws.{opens_checked}
 use Rattle.reading.specs.Reading.{Desk, desk}
 use Rattle.reading.specs.Head.{opening, begin_at}
-use Rattle.reading.proofs.StepLaws.{refused_not_done, opened_outcome, unopened_outcome, begin_stands}
+use Rattle.units.proofs.RefusalLaws.{refused_not_done}
+use Rattle.reading.proofs.StepLaws.{opened_outcome, unopened_outcome, begin_stands}
 use Rattle.reading.proofs.Reading.begin.Goals as goal
 use Rattle.reading.proofs.Reading.begin.Goals.{After-open-reply, else-self-ne-KINDS-via-then-self-ne-KINDS+else-self-ne-BEGIN, else-self-ne-KINDS-via-else-self-ne-KINDS}
 
