@@ -98,7 +98,8 @@ fn raise(counts: &mut [u32], ways: usize, depths: &[u32])
     }
 }
 
-// Some count at depth 0 in the first `rows` rows is not below `taken`. No early return: the loop is unrolled then.
+// Some count at depth 0 in the first `rows` rows is not below `taken`. By place, since `chunks_exact` divides at each call;
+// and with no early return, since the loop is unrolled then.
 pub(crate) fn tops_over(counts: &[u32], ways: usize, rows: usize, taken: u32) -> bool
     requires { (rows * ways ≤ length counts.now) × (1 ≤ ways) }
     ensures { result ≡ any_to rows (λ (s : ℕ). leb taken (get_or counts.now (s * ways) 0)) }
