@@ -10,8 +10,8 @@ use lines::LONGEST;
 use reading::{LINES_MOST, Reading};
 use units::refusal::answer_of;
 
-// How far the input is read, and the line that has begun: its bytes are the first `len` of the line buffer. (An array, since what is
-// promised is promised of all its bytes, from zeros on, and there is no heap.)
+// How far the input is read, and the line that has begun: its bytes are the first `len` of the line buffer. (An array and its
+// length, as SCOPE names the form, F8: what is promised is promised of all its bytes.)
 #[derive(Clone, Copy, Debug, PartialEq, Eq)]
 pub struct Feeding {
     pub reading: Reading,
