@@ -141,8 +141,8 @@ pub extern "C" fn kkaeduron_strip(
     answer_of(&stripped)
 }
 
-// The opened order that the numbers say. Neither this nor its reverse is a `From`: that would want a type
-// around C's array, put on and taken off at each call.
+// The opened order that the numbers say. Neither this nor its reverse is a `From`: it would have to stand in taking, which knows nothing of
+// how a state is laid out for C.
 fn state_from(state: [u32; STATE_NUMBERS]) -> Opened
     ensures { Says state result }
 {

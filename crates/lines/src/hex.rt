@@ -3,7 +3,7 @@ ghost use Rattle.std.specs.Prelude.{◌≡◌};
 ghost use Rattle.lines.specs.Bytes.{is_blank};
 ghost use Rattle.lines.specs.Parts.{blanks, hex_digit, HexDigits};
 
-// Hex digits that were read: their value, and how many they are.
+// Hex digits that were read: their value, and how many they are. (Two results, and no buffer.)
 #[derive(Clone, Copy)]
 pub(crate) struct Digits {
     pub value: u32,

@@ -3,7 +3,7 @@
 #![tactic(auto)]
 
 ghost use Rattle.std.specs.Prelude.{◌≡◌, cond};
-ghost use Rattle.order.specs.Limits.{sizes as sizesOf, rows as rows_of, span as span_of, stack_need, count_need, within, zero_order, Checks};
+ghost use Rattle.order.specs.Limits.{sizes as sizes_of, rows as rows_of, span as span_of, stack_need, count_need, within, zero_order, Checks};
 
 use units::{ByteExp, Refusal};
 
@@ -59,7 +59,7 @@ impl Order {
 
     // How many block sizes: bmin to bmax.
     pub fn sizes(self) -> usize
-        ensures { result ≡ sizesOf self }
+        ensures { result ≡ sizes_of self }
     {
         self.bmax.0.saturating_sub(self.bmin.0) as usize + 1
     }
@@ -95,7 +95,7 @@ impl Order {
         self.sizes() * self.span()
     }
 
-    // Every number is within its limits.
+    // Every number is within its limits. (One expression here, for a strip and for a question: a list of pairs would be built for each reference.)
     #[tactic(auto, unfolding(lists::specs::Tests::all_le))]
     pub fn is_within(self) -> bool
         ensures { result ≡ within self }

@@ -1,6 +1,7 @@
 -- The caches of an order in the order of the table: b, then s, then w upward; and the walk over them, one after the other. Assumes nothing.
-use Rattle.std.specs.Prelude.{ℕ, zero, suc, ◌+◌, ◌-◌, cond, List, [], ◌∷◌, ◌++◌, ltb, None, Some}
+use Rattle.std.specs.Prelude.{ℕ, zero, suc, ◌+◌, ◌-◌, ◌≡◌, cond, List, [], ◌∷◌, ◌++◌, ltb, None, Some}
 use Rattle.std.specs.declared.option.Option.{Option}
+use Rattle.std.specs.Iterator.{YieldsFirst}
 use Rattle.order.specs.declared.Cache.{Cache}
 use Rattle.order.specs.declared.Order.{Order}
 use Rattle.printing.specs.declared.Walk.{Walk}
@@ -56,3 +57,7 @@ from_cache o (Some c) =
 
 abbrev pub caches_left : Walk → List Cache
 caches_left v = from_cache v.order v.next
+
+-- `next` leads from v to v' and gives r: the first of them, and the order stays
+abbrev pub WalkSteps : Walk → Option Cache → Walk → Type 0
+WalkSteps v r v' = YieldsFirst caches_left v r v' × (v'.order ≡ v.order)

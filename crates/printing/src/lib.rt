@@ -3,10 +3,10 @@
 #![tactic(auto)]
 
 ghost use Rattle.std.specs.Prelude.{◌≡◌, ◌+◌, ◌≤◌, length};
-ghost use Rattle.std.specs.Iterator.{YieldsFirst, item_count};
+ghost use Rattle.std.specs.Iterator.{item_count};
 ghost use Rattle.printing.specs.Printed.{decimal_of, head_lines, line_at, refusal_line};
 ghost use Rattle.printing.specs.Forms.{filled, most, Puts, Prints};
-ghost use Rattle.printing.specs.Grid.{grid_of, first_cache, next_cache, caches_left};
+ghost use Rattle.printing.specs.Grid.{grid_of, first_cache, next_cache, caches_left, WalkSteps};
 
 use order::{Cache, Order};
 use reading::Tally;
@@ -29,7 +29,7 @@ pub struct Walk {
 impl Walk {
     // Over all of them.
     pub fn over(order: Order) -> Walk
-        ensures first { result.next ≡ first_cache order }
+        ensures first { result ≡ record { order = order; next = first_cache order } }
         ensures all { caches_left result ≡ grid_of order }
     {
         let first = Cache {
@@ -47,7 +47,7 @@ impl Walk {
 impl Iterator for Walk {
     type Item = Cache;
 
-    ghost next_gives = { YieldsFirst caches_left };
+    ghost next_gives = { WalkSteps };
 
     ghost remaining = { item_count caches_left };
 

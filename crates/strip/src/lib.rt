@@ -38,7 +38,7 @@ pub fn strip(
     Ok(filter.keep(list, out))
 }
 
-// Both numbers are within the order's limits.
+// Both numbers are within the order's limits. (As `Order::is_within`, one expression.)
 #[tactic(auto, unfolding(lists::specs::Tests::all_le))]
 fn is_within(b: ByteExp, s: u32) -> bool
     ensures { result ≡ all_le (strip_limits b.0 s) }

@@ -7,7 +7,8 @@ use feeding::Feeding;
 use std::io;
 use std::io::Read;
 
-// The bytes that came next: the first `len` of the chunk. (Both always count: the last bytes are none, or one LF.)
+// The bytes that came next: the first `len` of the chunk. (No Option: at the end both count, since the last bytes are none, or the LF
+// that the last line lacks.)
 #[derive(Clone, Copy)]
 struct More {
     // The input has no more.

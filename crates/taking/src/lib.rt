@@ -1,5 +1,6 @@
 // The opened order, and what its functions hand back (SCOPE, "The order's numbers" and "Questions"). Its functions
-// stand in opening.rt, references.rt, flushing.rt, questions.rt and refusing.rt. Both tables are lent: slices of 32-bit numbers.
+// stand in opening.rt, references.rt, flushing.rt, questions.rt and refusing.rt, and what these rest on in counting.rt,
+// moving.rt and rating.rt. Both tables are lent: slices of 32-bit numbers.
 #![tactic(auto)]
 
 use order::Order;

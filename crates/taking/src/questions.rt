@@ -53,7 +53,7 @@ impl Opened {
         Ok(rated(misses, self.taken, cache.b))
     }
 
-    // The order has the cache.
+    // The order has the cache. (As `Order::is_within`, one expression.)
     #[tactic(auto, unfolding(lists::specs::Tests::all_le))]
     pub fn has(self, cache: Cache) -> bool
         ensures { result ≡ Questions·has self.order cache.b.0 cache.s cache.w }

@@ -6,7 +6,7 @@ use crate::Ratios;
 use units::ByteExp;
 
 impl Ratios {
-    // Zeros, beside a refusal.
+    // Zeros, as C's call has them beside a refusal.
     pub fn none() -> Ratios
         ensures { result ≡ no_ratios }
     {

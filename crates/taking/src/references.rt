@@ -23,8 +23,8 @@ pub(crate) struct Walk {
 // One for every block size that an order can have.
 pub(crate) type Walks = [Walk; Order::SIZES_MOST];
 
-// `Fit` stands in four contracts below, and both tables go along: a struct that held the state and the tables lent would have
-// to promise in each, besides, that its references are those it was given.
+// `Fit` stands in four contracts below, and is no type: a state comes in by value, fit or not, and goes back as it came, so such a type would be
+// made and taken apart in each call; and the lengths of the tables, which are lent, would stay in each contract.
 impl Opened {
     // Takes a reference. Most find their block on top of every stack: there each depth is 0 and nothing moves.
     pub fn take_ref(mut self, stacks: &mut [u32], counts: &mut [u32], a: Addr) -> Reply<()>

@@ -1,13 +1,14 @@
--- `next` meets its contract: the first of the caches left is given, and the others are left. Assumes nothing.
-use Rattle.std.proofs.Common.{ap, length, arith, ◌∙◌}
+-- `next` meets its contract: the first of the caches left is given, the others are left, and the order stays. Assumes nothing.
+use Rattle.std.proofs.Common.{ap, refl, length, arith, ◌∙◌}
 use Rattle.printing.specs.Grid.{from_cache}
 use Rattle.printing.proofs.WalkLaws.{next_left}
 use Rattle.printing.proofs.WalkIterator.next.Goals as goal
 
 pub returns-clause-steps : goal.returns-clause-steps
 returns-clause-steps c =
-    let o = c.args.self.now.order in rw c.cache_after-self.ensures (ap (from_cache o) c.in_ok-cache.was ∙ next_left o c.in_ok-cache.cache)
+    let o = c.args.self.now.order in
+    (rw c.cache_after-self.ensures (ap (from_cache o) c.in_ok-cache.was ∙ next_left o c.in_ok-cache.cache), refl)
 
 pub returns-clause-goes : goal.returns-clause-goes
 returns-clause-goes c =
-    let fewer = ap length (returns-clause-steps c) in record { on = λ z. (tt, tt, omega (arith, fewer)); keeps = tt; rests = λ z. tt }
+    let fewer = ap length (returns-clause-steps c).0 in record { on = λ z. (tt, tt, omega (arith, fewer)); keeps = tt; rests = λ z. tt }
