@@ -11,6 +11,7 @@ use Rattle.lines.specs.declared.Kind.{Kind}
 use Rattle.lines.specs.declared.Kinds.{Kinds}
 use Rattle.lines.specs.declared.Kinds.TheVariants.{All, Fetch, Data}
 
+-- what a line reads as
 pub data OrderLine : Type 0 where
   Bmin : ℕ → OrderLine
   Bmax : ℕ → OrderLine

@@ -16,6 +16,7 @@ pub record BadLine : Type 0 where
   pub number : ℕ
   pub column : ℕ
 
+-- what a line reads as
 pub data TraceLine : Type 0 where
   Ref : Kind → Addr → TraceLine
   -- label 4, an escape: well-formed, and no reference

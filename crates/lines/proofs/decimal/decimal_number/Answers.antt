@@ -17,7 +17,7 @@ returns-then-is_empty c =
     ]
 
 pub returns-then-digits-gt1 : goal.returns-then-digits-gt1
-returns-then-digits-gt1 c = sym (number_zeros _ (omega arith) c.if-digits-eq48.true (omega arith))
+returns-then-digits-gt1 c = sym (number_zeros _ (omega arith) (omega arith) (omega arith))
 
 pub returns-then-not-is_ascii_digit : goal.returns-then-not-is_ascii_digit
 returns-then-not-is_ascii_digit c =
