@@ -95,7 +95,8 @@ impl Order {
         self.sizes() * self.span()
     }
 
-    // Every number is within its limits. (One expression here, for a strip and for a question: a list of pairs would be built for each reference.)
+    // Every number is within its limits. (One expression here, for a strip and for a question: a list of pairs would be built for each
+    // reference. Exponents are compared as the numbers that the limits are.)
     #[tactic(auto, unfolding(lists::specs::Tests::all_le))]
     pub fn is_within(self) -> bool
         ensures { result ≡ within self }
