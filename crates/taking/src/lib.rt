@@ -1,6 +1,7 @@
 // The opened order, and what its functions hand back (SCOPE, "The order's numbers" and "Questions"). Its functions
 // stand in opening.rt, references.rt, flushing.rt, questions.rt and refusing.rt, and what these rest on in counting.rt,
-// moving.rt and rating.rt. Both tables are lent: slices of 32-bit numbers.
+// moving.rt and rating.rt. Both tables are lent: slices of 32-bit numbers,
+// each by itself, since a flush takes the stacks alone and a question the counts.
 #![tactic(auto)]
 
 use order::Order;

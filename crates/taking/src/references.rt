@@ -13,7 +13,8 @@ use crate::{Opened, Reply};
 use order::Order;
 use units::{Addr, BlockNo, Refusal};
 
-// What the walk over a stack to a block finds: where it left, and for each s how many of the blocks before share its set.
+// What the walk over a stack to a block finds: where it left, and for each s how many of the blocks before share its set. (Where the block is not
+// there it left at the stack's length, and no Option tells: the block goes to the top from there as from any other place.)
 #[derive(Clone, Copy)]
 pub(crate) struct Walk {
     pub(crate) place: u32,
