@@ -64,8 +64,9 @@ class Printed(unittest.TestCase):
         """The numbers of SCOPE's table that are given are those of the code, and README.md has advice for each refusal."""
         rows = re.findall(r"(?m)^\| \*\*R\d+\*\* \| (\d+) \| (.*) \|$", SCOPE)
         printed = [int(number) for number, when in rows if not when.startswith("never:")]
-        coded = re.findall(r"(?m)^    \w+ = (\d+),$", (ROOT / "crates/units/src/refusal.rt").read_text())
-        self.assertEqual([0, *sorted(map(int, coded))], printed)
+        source = (ROOT / "crates/units/src/refusal.rt").read_text()
+        coded = re.findall(r"Ok\(_\) => (\d+),", source) + re.findall(r"(?m)^    \w+ = (\d+),$", source)
+        self.assertEqual(sorted(map(int, coded)), printed)
         advised = re.findall(r"(?m)^\| (\d+) \|", (ROOT / "README.md").read_text())
         self.assertEqual(list(map(int, advised)), printed[1:])
 

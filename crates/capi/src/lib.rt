@@ -71,9 +71,9 @@ pub extern "C" fn kkaeduron_flush(state: &mut [u32; STATE_NUMBERS], stacks: &mut
         result (lent state.new stacks.new ct) }
 {
     let handed = state_from(*state);
-    let reply = handed.flush(stacks);
-    *state = numbers_of(reply.state);
-    answer_of(&reply.answer)
+    let emptied = handed.flush(stacks);
+    *state = numbers_of(emptied.state);
+    answer_of(&emptied.answer)
 }
 
 // Puts the misses of the cache (b, s, w) into a number.

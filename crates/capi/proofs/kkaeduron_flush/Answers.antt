@@ -8,4 +8,4 @@ pub returns : goal.returns
 returns c =
     let a = c.args in
     λ ct. rw c.answer_of.ensures
-    (take_called (lent a.state.now a.stacks.now ct) flush c.state_from-handed.ensures (c.flush-reply.ensures ct) c.numbers_of.ensures)
+    (take_called (lent a.state.now a.stacks.now ct) flush c.state_from-handed.ensures (c.flush-emptied.ensures ct) c.numbers_of.ensures)
