@@ -4,12 +4,12 @@
 use Prim.Native.Nat.{ℕ, zero, suc, ◌≤◌, ◌<◌}
 use mathlib.Core.Path.{◌≡◌, refl, sym, ap, ◌∙◌}
 use mathlib.Core.Bool.{Bool, true, false, cond, ◌&&◌, ◌||◌, and-false, true≢false, false≢true}
-use mathlib.Core.List.{List, [], ◌∷◌}
+use mathlib.Core.List.{List, [], ◌∷◌, ◌++◌}
 use native.Mathlib.Omega.{arith}
 use lib.Dec.{eqb, ltb, leb-zero, leb-suc-zero, leb-suc-suc}
-use lib.ListN.{take, length, get_or}
+use lib.ListN.{take, drop, length, get_or}
 use lib.Seq.{take-nil}
-use borrow.Author.Tests.{eqb-true, eq-eqb}
+use borrow.Author.Tests.{eqb-true, eq-eqb, ltb-false}
 use Rattle.lists.specs.Members.{mem, remove, above, keep}
 use Rattle.lists.proofs.Cases.{cases}
 
@@ -53,6 +53,11 @@ pub take_remove : (x w : ℕ) (l : List ℕ) → mem x (take (suc w) l) ≡ fals
 take_remove x w [] e = refl
 take_remove x zero (y ∷ ys) e = refl
 take_remove x (suc w) (y ∷ ys) e = cases (eqb x y) (λ f. absurd (true≢false (rw f at e))) (λ f. simp (f, take_remove x w ys (rw f at e)))
+
+pub absent_remove : (x : ℕ) (l : List ℕ) → mem x l ≡ false → remove x l ≡ l
+absent_remove x [] h = refl
+absent_remove x (y ∷ l) h =
+    cases (eqb x y) (λ e. absurd (true≢false (simp e at h))) (λ e. simp e (ap (λ (t : List ℕ). y ∷ t) (absent_remove x l (simp e at h))))
 
 -- ---- those that pass a test
 
@@ -112,9 +117,33 @@ pub length_keep : (p : ℕ → Bool) (l : List ℕ) → length (keep p l) ≤ le
 length_keep p [] = omega arith
 length_keep p (y ∷ l) = cases (p y) (λ e. simp e (omega (arith, length_keep p l))) (λ e. simp e (omega (arith, length_keep p l)))
 
+pub above_le : (x : ℕ) (l : List ℕ) → length (above x l) ≤ length l
+above_le x [] = omega arith
+above_le x (y ∷ l) = cases (eqb x y) (λ e. simp e (omega arith)) (λ e. simp e (omega (arith, above_le x l)))
+
 pub mem_above : (x : ℕ) (l : List ℕ) → mem x l ≡ ltb (length (above x l)) (length l)
 mem_above x [] = refl
 mem_above x (y ∷ l) = cases (eqb x y) (λ e. simp (e, ltb·zero-suc)) (λ e. simp (e, leb-suc-suc) (mem_above x l))
+
+-- what stands around the first x
+pub around_first : (x : ℕ) (l : List ℕ) → length (above x l) < length l
+    → take (length (above x l)) l ++ drop (suc (length (above x l))) l ≡ remove x l
+around_first x [] h = absurd (omega arith)
+around_first x (y ∷ l) h =
+    cases (eqb x y)
+    (λ e. simp e)
+    (λ e. simp e (ap (λ (t : List ℕ). y ∷ t) (around_first x l (rest (simp e at h)))))
+  where
+    rest : suc (length (above x l)) < suc (length l) → length (above x l) < length l
+    rest q = omega arith
+
+-- a list within room stays so with x in front, where fewer than room stand above x
+pub length_front_le : (x room : ℕ) (l : List ℕ) → length (above x l) < room → length l ≤ room → length (x ∷ remove x l) ≤ room
+length_front_le x room l h f =
+    rw (length_front x l)
+    (cases (mem x l)
+    (λ e. simp e f)
+    (λ e. let g = ltb-false (length (above x l)) (length l) (sym (mem_above x l) ∙ e) in simp e (omega arith)))
 
 pub absent_above : (x : ℕ) (l : List ℕ) → mem x l ≡ false → above x l ≡ l
 absent_above x [] h = refl

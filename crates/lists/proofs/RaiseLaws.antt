@@ -4,7 +4,7 @@ use Prim.Native.Nat.{ℕ, zero, suc, ◌+◌, ◌*◌, ◌≤◌, ◌<◌}
 use mathlib.Core.Path.{◌≡◌, refl, ap, ◌∙◌}
 use mathlib.Core.Bool.{Bool, true, false, cond}
 use mathlib.Core.List.{List}
-use native.Mathlib.Nat.{suc-mul, add-mul, mul_assoc}
+use native.Mathlib.Nat.{suc-mul, add-mul, mul-one, mul_assoc, mul-le-mul_left}
 use native.Mathlib.Numerals.{add-one}
 use native.Mathlib.Omega.{arith}
 use lib.Arith.{digits_lt}
@@ -30,6 +30,10 @@ cell_end groups rows ways k s w h f g =
 -- a place in row s of group k, and the same from where the group starts
 pub cell_in_group : (rows ways k s d : ℕ) → (k * rows + s) * ways + d ≡ k * (rows * ways) + (s * ways + d)
 cell_in_group rows ways k s d = omega (arith, add-mul (k * rows) s ways, mul_assoc k rows ways)
+
+-- the number of a row is no more than the place where it starts
+pub row_le : (r w : ℕ) → 0 < w → r ≤ r * w
+row_le r w h = omega (arith, mul-one r, mul-le-mul_left {m = 1} {n = w} r h)
 
 -- ---- one count
 

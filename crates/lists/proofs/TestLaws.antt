@@ -1,7 +1,7 @@
 -- Laws of `first_of`, `any_to` and `all_le`.
 -- Assumes nothing.
-use Prim.Native.Nat.{ℕ, zero, suc, ◌+◌, ◌<◌}
-use mathlib.Core.Path.{◌≡◌, refl, sym, ap, ◌∙◌}
+use Prim.Native.Nat.{ℕ, zero, suc, ◌+◌, ◌≤◌, ◌<◌}
+use mathlib.Core.Path.{◌≡◌, refl, sym, ap, ◌∙◌, subst}
 use mathlib.Core.Bool.{Bool, true, false, cond, true≢false, false≢true, or-true, not, ◌&&◌, ◌||◌}
 use mathlib.Core.List.{List, [], ◌∷◌, ◌++◌}
 use native.Mathlib.Numerals.{add-one}
@@ -78,6 +78,10 @@ pub any_none_of : (n : ℕ) (p : ℕ → Bool) → ((k : ℕ) → k < n → p k 
 unfolding any_to
 any_none_of zero p h = refl
 any_none_of (suc n) p h = simp (any_none_of n p (λ k l. h k (omega arith)), h n (omega arith))
+
+-- none of all n, where a loop has passed k = n of them
+pub any_ended : (n k : ℕ) (p : ℕ → Bool) → k ≤ n → n ≤ k → any_to k p ≡ false → any_to n p ≡ false
+any_ended n k p h g e = let q : k ≡ n = omega arith in subst (λ (m : ℕ). any_to m p ≡ false) q e
 
 -- the first decides where each is no more than the first
 pub any_first : (n : ℕ) (p : ℕ → Bool) → 0 < n → ((k : ℕ) → k < n → p k ≡ true → p 0 ≡ true) → any_to n p ≡ p 0
