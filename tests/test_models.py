@@ -65,7 +65,7 @@ class Printed(unittest.TestCase):
         rows = re.findall(r"(?m)^\| \*\*R\d+\*\* \| (\d+) \| (.*) \|$", SCOPE)
         printed = [int(number) for number, when in rows if not when.startswith("never:")]
         source = (ROOT / "crates/units/src/refusal.rt").read_text()
-        coded = re.findall(r"Ok\(_\) => (\d+),", source) + re.findall(r"(?m)^    \w+ = (\d+),$", source)
+        coded = re.findall(r"pub const \w+: u32 = (\d+);", source) + re.findall(r"(?m)^    \w+ = (\d+),$", source)
         self.assertEqual(sorted(map(int, coded)), printed)
         advised = re.findall(r"(?m)^\| (\d+) \|", (ROOT / "README.md").read_text())
         self.assertEqual(list(map(int, advised)), printed[1:])

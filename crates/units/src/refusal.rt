@@ -2,6 +2,9 @@
 ghost use Rattle.std.specs.Prelude.{◌≡◌};
 ghost use Rattle.units.specs.Refusals.{number_of, answer_of, has_column};
 
+// Done.
+pub const DONE: u32 = 0;
+
 #[derive(Clone, Copy, Debug, PartialEq, Eq)]
 pub enum Refusal {
     // An order number, or the b or s of a strip, is outside its limits.
@@ -53,7 +56,7 @@ pub fn answer_of<T>(called: &Result<T, Refusal>) -> u32
     ensures { result ≡ answer_of called.now }
 {
     match called {
-        Ok(_) => 0,
+        Ok(_) => DONE,
         Err(refusal) => u32::from(*refusal),
     }
 }
