@@ -9,9 +9,11 @@ use lib.Dec.{eqb, ltb}
 use borrow.Author.Tests.{not-false, ltb-false, le-ltb, eqb-false}
 use Rattle.lists.specs.Tests.{any_to}
 use Rattle.lists.proofs.BoolLaws.{or_none, or_both}
+use Rattle.lists.proofs.Cases.{cases}
 use Rattle.lists.proofs.PartLaws.{row_in}
 use Rattle.lists.proofs.TestLaws.{all_facts, all_yes, none_first, any_not, any_none_of}
 use Rattle.order.specs.Limits.{limits, within, sizes, rows, sizes_most, rows_most, stack_need, count_need}
+use Rattle.order.proofs.LimitLaws.{needs_small}
 use Rattle.taking.specs.Places.{used_of}
 use Rattle.taking.specs.Taking.{is_foreign, some_size, take_answer}
 use Rattle.taking.specs.World.{World}
@@ -104,6 +106,14 @@ flush_is_done w f =
       le-ltb (length w.stacks) (stack_need w.state.order) f.long,
       own_of w.state (length w.stacks) (length w.counts) f,
     )
+
+-- the refusals 1 to 4 are a flush's where there are as many counts as any order needs
+pub unfit_flush : (v : Opened) (n m : ℕ) → 1920 ≤ m → unfit_answer v n m ≡ unflushable v n
+unfit_flush v n m h =
+    cases (within v.order)
+    (λ e. let few = (needs_small v.order (all_facts (limits v.order) e)).counts in
+    simp (e, le-ltb m (count_need v.order) (omega (arith, few))))
+    (λ e. simp e)
 
 -- what an answer of 0 to a flush says: 3 is not looked at, so of the counts nothing is known
 pub fit_flush : (v : Opened) (n : ℕ) → unflushable v n ≡ 0 → Fit v n (count_need v.order)

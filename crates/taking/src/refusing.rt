@@ -21,11 +21,12 @@ impl Opened {
         Ok(())
     }
 
-    // Refusals 1, 2 and 4 of a flush, with a stack table of `len` entries. It looks at no count, so of these there are enough.
+    // Refusals 1, 2 and 4 of a flush, with a stack table of `len` entries. It looks at no count, so of these there are enough: more than
+    // any table has, since what the order needs would be computed for each flush.
     pub(crate) fn unflushed(&self, len: usize) -> Result<(), Refusal>
         ensures { answer_of result ≡ unflushable self.now len }
     {
-        self.unfit(len, self.order.count_need())
+        self.unfit(len, usize::MAX)
     }
 
     // Refusals 1, 3, 4 and 8 of a question, with a count table of m entries. It looks at no stack, so there is room enough.
