@@ -11,7 +11,7 @@ ghost use Rattle.capi.specs.Boundary.{numbers_of, lent, Says, CallsOpen, CallsTa
 
 use order::{Cache, Order};
 use strip::strip;
-use taking::{Opened, Ratios};
+use taking::{Opened, Ratios, Reply};
 use units::refusal::answer_of;
 use units::{Addr, ByteExp};
 
@@ -39,8 +39,13 @@ pub extern "C" fn kkaeduron_open(
         (lent state.old stacks.old counts.old)
         result (lent state.new stacks.new counts.new) }
 {
-    let order = Order::new(ByteExp(bmin), ByteExp(bmax), smax, ways, room, refs);
-    let reply = Opened::open(order.unwrap_or(Order::none()), stacks, counts);
+    let reply = match Order::new(ByteExp(bmin), ByteExp(bmax), smax, ways, room, refs) {
+        Ok(order) => Opened::open(order, stacks, counts),
+        Err(refusal) => Reply {
+            state: Opened::none(),
+            answer: Err(refusal),
+        },
+    };
     *state = numbers_of(reply.state);
     answer_of(&reply.answer)
 }

@@ -1,5 +1,5 @@
 -- An order just opened is refused as its opening is; and opening what the order's constructor gives is opening the order: where it is outside its limits, it gives 1 and no order, and so would the
--- opening of zeros. Assumes nothing.
+-- opening of zeros; what the constructor refuses is refused so, with nothing opened. Assumes nothing.
 use Prim.Native.Nat.{ℕ}
 use mathlib.Core.Path.{◌≡◌, sym, ap, ◌∙◌, subst}
 use mathlib.Core.Bool.{Bool, false, cond}
@@ -7,10 +7,11 @@ use native.Mathlib.Omega.{arith}
 use lib.Dec.{ltb}
 use lib.ListN.{length}
 use borrow.Author.Tests.{le-ltb}
-use Rattle.std.specs.Prelude.{Result}
+use Rattle.std.specs.Prelude.{Result, Err}
 use Rattle.std.specs.Result.{result_unwrap_or}
 use Rattle.units.specs.declared.refusal.Refusal.{Refusal}
 use Rattle.units.specs.Refusals.{number_of}
+use Rattle.units.proofs.RefusalLaws.{refused_not_done}
 use Rattle.lists.specs.Tests.{all_le, any_to}
 use Rattle.lists.proofs.BoolLaws.{or_both}
 use Rattle.lists.proofs.Cases.{cases}
@@ -49,3 +50,10 @@ opens_checked o r w n w' k t =
     (λ e.
     let z = subst (λ (o : Order). Opens o w n w') (k.order ∙ ap (λ (x : Bool). cond x o zero_order) e) t in
     record { answer = simp e z.answer; left = simp e z.left })
+
+pub opens_outside : (o : Order) (e : Refusal) (w : World) → Checks o (Err e) → Opens o w (number_of e) w
+opens_outside o e w k =
+    opens_refused o w e
+    (cases (within o)
+    (λ h. absurd (refused_not_done e (k.answer ∙ simp h)))
+    (λ h. k.answer ∙ simp h))
