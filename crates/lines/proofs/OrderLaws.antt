@@ -3,7 +3,7 @@
 use Prim.Native.Nat.{ℕ, suc, ◌+◌, ◌-◌, ◌*◌, ◌≤◌, ◌<◌, min}
 use Prim.Native.Nat.compare.{suc-suc}
 use mathlib.Core.Path.{◌≡◌, refl, ap, ◌∙◌}
-use mathlib.Core.Bool.{Bool, cond, true, false, not, ◌&&◌, ◌||◌, and-false, or-true}
+use mathlib.Core.Bool.{cond, true, false, not, ◌&&◌, ◌||◌, and-false, or-true}
 use mathlib.Core.List.{List, [], ◌∷◌}
 use native.Mathlib.Numerals.{add-one}
 use native.Mathlib.Omega.{arith}
@@ -14,7 +14,7 @@ use lib.Seq.{drop-cons}
 use borrow.Author.Tests.{eq-eqb, eqb-true, ne_eqb, le-leb, lt-leb, lt-ltb, le-ltb}
 use Rattle.std.specs.Prelude.{Option, Some, None}
 use Rattle.std.specs.Bool.{then_some}
-use Rattle.std.specs.Option.{option_or, ok_or, MatchOption, IsSomeAnd}
+use Rattle.std.specs.Option.{option_map, ok_or, MatchOption, IsSomeAnd}
 use Rattle.lists.proofs.Cases.{cases}
 use Rattle.lists.proofs.CompareLaws.{at_most_cut, at_least_cut}
 use Rattle.lines.specs.Bytes.{is_decimal}
@@ -119,54 +119,43 @@ abbrev pub read_or : OrderLine → Option GoodOrder → OrderLine
 read_or else (Some line) = good_order line
 read_or else None = else
 
-read_first : (else : OrderLine) (found next : Option GoodOrder) → read_or else (option_or found next) ≡ read_or (read_or else next) found
-read_first else None next = refl
-read_first else (Some line) next = refl
+-- the line that a number makes
+pub mapped : (read : ℕ → GoodOrder) (number : Option ℕ) (own all : Option GoodOrder) {asked : Option ℕ} → number ≡ asked
+    → MatchOption number (own ≡ None) (λ v. IsSomeAnd own (λ l. l ≡ read v)) → all ≡ own → all ≡ option_map read asked
+mapped read None own all e m f = f ∙ m ∙ ap (option_map read) e
+mapped read (Some v) None all e m f = absurd m
+mapped read (Some v) (Some l) all e m f = f ∙ ap Some m ∙ ap (option_map read) e
 
--- the cases left begin with one more, of which `own` was read where its test holds
-next : (test : Bool) (x else : OrderLine) (found own : Option GoodOrder) {all : Option GoodOrder} → read_or else own ≡ cond test x else
-    → all ≡ option_or found own → read_or else all ≡ read_or (cond test x else) found
-next test x else found own e f =
-    ap (read_or else) f ∙ read_first else found own ∙ ap (λ (l : OrderLine). read_or l found) e
+-- the cases left begin with one more, tried only where nothing was found: `own` is read there
+next : {Tried : Type 0} (else own : OrderLine) (found all : Option GoodOrder) → MatchOption found Tried (λ line. all ≡ Some line)
+    → (Tried → read_or else all ≡ own) → read_or else all ≡ read_or own found
+next else own None all m tried = tried m
+next else own (Some line) all m tried = ap (read_or else) m
 
 module _ (line : List ℕ) where
   -- a name and a number
-  module _ (n : List ℕ × (ℕ → OrderLine)) (read : ℕ → GoodOrder) (same : (v : ℕ) → good_order (read v) ≡ n.1 v) where
-    number_own : (else : OrderLine) (number : Option ℕ) (own : Option GoodOrder) → number ≡ number_after n.0 line
-        → MatchOption number (own ≡ None) (λ v. IsSomeAnd own (λ l. l ≡ read v))
-        → read_or else own ≡ cond (is_numbered n.0 line) (n.1 (value_of (after n.0 line))) else
-    number_own else None own e m =
-        cases (is_numbered n.0 line)
-        (λ t. let some = simp t at e in cc)
-        (λ t. simp t (ap (read_or else) m))
-    number_own else (Some v) None e m = absurd m
-    number_own else (Some v) (Some l) e m =
-        cases (is_numbered n.0 line)
-        (λ t.
-        let some = simp t at e in
-        let value : v ≡ value_of (after n.0 line) = cc in
-        simp t (ap good_order m ∙ same v ∙ ap n.1 value))
-        (λ t. let none = simp t at e in cc)
-
-    pub number_next : (more : List (List ℕ × (ℕ → OrderLine)))
-        (found own : Option GoodOrder) {all : Option GoodOrder} {number : Option ℕ} → number ≡ number_after n.0 line
-        → MatchOption number (own ≡ None) (λ v. IsSomeAnd own (λ l. l ≡ read v)) → all ≡ option_or found own
-        → read_or (numbered more line (words line)) all ≡ read_or (numbered (n ∷ more) line (words line)) found
-    unfolding numbered
-    number_next more found own {all} {number} e m f =
-        let else = numbered more line (words line) in
-        next (is_numbered n.0 line) (n.1 (value_of (after n.0 line))) else found own (number_own else number own e m) f
+  pub number_next : (n : List ℕ × (ℕ → OrderLine)) (read : ℕ → GoodOrder) → ((v : ℕ) → good_order (read v) ≡ n.1 v)
+      → (more : List (List ℕ × (ℕ → OrderLine))) (found : Option GoodOrder) {all : Option GoodOrder} {Tried : Type 0}
+      → MatchOption found Tried (λ l. all ≡ Some l) → (Tried → all ≡ option_map read (number_after n.0 line))
+      → read_or (numbered more line (words line)) all ≡ read_or (numbered (n ∷ more) line (words line)) found
+  unfolding numbered
+  number_next n read same more found {all} m own =
+      let else = numbered more line (words line) in
+      let tried : all ≡ option_map read (number_after n.0 line)
+      → read_or else all ≡ cond (is_numbered n.0 line) (n.1 (value_of (after n.0 line))) else =
+      λ e. cases (is_numbered n.0 line) (λ h. simp (e, h) (same (value_of (after n.0 line)))) (λ h. simp (e, h)) in
+      next else _ found all m (λ t. tried (own t))
 
   -- a whole line
   pub whole_next : (w : List ℕ × OrderLine) (read : GoodOrder) → good_order read ≡ w.1 → (more : List (List ℕ × OrderLine))
-      (found own : Option GoodOrder) {all : Option GoodOrder} {t : Bool} → t ≡ is_whole w.0 line → own ≡ then_some t read
-      → all ≡ option_or found own → read_or (whole more line bad) all ≡ read_or (whole (w ∷ more) line bad) found
+      (found : Option GoodOrder) {all : Option GoodOrder} {Tried : Type 0} → MatchOption found Tried (λ l. all ≡ Some l)
+      → (Tried → all ≡ then_some (is_whole w.0 line) read) → read_or (whole more line bad) all ≡ read_or (whole (w ∷ more) line bad) found
   unfolding whole
-  whole_next w read same more found own e m f =
+  whole_next w read same more found {all} m own =
       let else = whole more line bad in
-      let is : read_or else own ≡ cond (is_whole w.0 line) w.1 else =
-      cases (is_whole w.0 line) (λ h. simp (m, e, h) same) (λ h. simp (m, e, h)) in
-      next (is_whole w.0 line) w.1 else found own is f
+      let tried : all ≡ then_some (is_whole w.0 line) read → read_or else all ≡ cond (is_whole w.0 line) w.1 else =
+      λ e. cases (is_whole w.0 line) (λ h. simp (e, h) same) (λ h. simp (e, h)) in
+      next else _ found all m (λ t. tried (own t))
 
 -- where nothing is left to try, the line is bad
 pub last_whole : (line : List ℕ) (found : Option GoodOrder)

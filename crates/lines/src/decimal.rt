@@ -7,6 +7,7 @@ ghost use Rattle.lines.specs.Parts.{decimal_number, number_after};
 const DECIMAL_MOST: usize = 10;
 
 // The number that the digits stand for.
+#[tactic(auto, using(crate::proofs::OrderLaws::number_zeros))]
 fn decimal_number(digits: &[u8]) -> Option<u32>
     ensures { result ≡ decimal_number digits.now }
 {

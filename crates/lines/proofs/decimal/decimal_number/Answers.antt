@@ -5,7 +5,7 @@ use native.Mathlib.Omega.{arith}
 use lib.ListN.{length, get_or}
 use Rattle.std.specs.Prelude.{Some}
 use borrow.Author.Tests.{eqb-true, eqb-false}
-use Rattle.lines.proofs.OrderLaws.{digits_more, digits_other, digits_end, decimal_more, decimal_end, number_none, number_long, number_zeros, number_other, number_right}
+use Rattle.lines.proofs.OrderLaws.{digits_more, digits_other, digits_end, decimal_more, decimal_end, number_none, number_long, number_other, number_right}
 use Rattle.lines.proofs.decimal.decimal_number.Goals as goal
 use Rattle.lines.proofs.decimal.decimal_number.Goals.{then-is_empty-via-then-is_empty, then-is_empty-via-else-is_empty+then-digits-gt-DECIMAL_MOST}
 
@@ -15,9 +15,6 @@ returns-then-is_empty c =
       | then-is_empty-via-then-is_empty w ↦ sym (number_none _ (eqb-true _ 0 (sym c.is_empty.ensures ∙ w.if-is_empty.true)))
       | then-is_empty-via-else-is_empty+then-digits-gt-DECIMAL_MOST w ↦ sym (number_long _ (omega arith) (omega arith))
     ]
-
-pub returns-then-digits-gt1 : goal.returns-then-digits-gt1
-returns-then-digits-gt1 c = sym (number_zeros _ (omega arith) (omega arith) (omega arith))
 
 pub returns-then-not-is_ascii_digit : goal.returns-then-not-is_ascii_digit
 returns-then-not-is_ascii_digit c =
