@@ -1,5 +1,7 @@
 -- `next` meets its contract: the first of the caches left is given, the others are left, and the order stays. Assumes nothing.
-use Rattle.std.proofs.Common.{ap, refl, length, arith, ◌∙◌}
+use Rattle.std.proofs.Common.{ap, refl, sym, length, arith, ◌∙◌, ◌∷◌}
+use Rattle.std.specs.Prelude.{Option}
+use Rattle.order.specs.declared.Cache.{Cache}
 use Rattle.printing.specs.Grid.{from_cache}
 use Rattle.printing.proofs.WalkLaws.{next_left}
 use Rattle.printing.proofs.WalkIterator.next.Goals as goal
@@ -7,7 +9,9 @@ use Rattle.printing.proofs.WalkIterator.next.Goals as goal
 pub returns-clause-steps : goal.returns-clause-steps
 returns-clause-steps c =
     let o = c.args.self.now.order in
-    (rw c.cache_after-self.ensures (ap (from_cache o) c.in_ok-cache.was ∙ next_left o c.in_ok-cache.cache), refl)
+    let cache = c.in_ok-cache.cache in
+    let after = ap (λ (next : Option Cache). cache ∷ from_cache o next) (sym c.cache_after-self.ensures) in
+    (ap (from_cache o) c.in_ok-cache.was ∙ next_left o cache ∙ after, refl)
 
 pub returns-clause-goes : goal.returns-clause-goes
 returns-clause-goes c =
