@@ -1,8 +1,11 @@
 -- `try_open` meets its contract: the order just opened is refused as it is to be, or both tables are zeroed. Assumes nothing.
-use mathlib.Core.Path.{◌≡◌, sym, ◌∙◌}
+use Prim.Native.Nat.{ℕ}
+use mathlib.Core.Path.{◌≡◌, sym, ap, ◌∙◌}
+use native.Mathlib.Omega.{arith}
 use Rattle.std.proofs.lemmas.Result.{err_from_is_err_and}
+use Rattle.lists.specs.Tables.{zeroed}
 use Rattle.lists.proofs.TestLaws.{all_yes}
-use Rattle.order.specs.Limits.{limits, count_need}
+use Rattle.order.specs.Limits.{limits, stack_need, count_need}
 use Rattle.taking.specs.Opening.{fresh, unopened}
 use Rattle.taking.proofs.NeedLaws.{fit_unfit}
 use Rattle.taking.proofs.OpeningLaws.{unfit_fresh, opens_refused, opens_done}
@@ -24,5 +27,8 @@ returns c =
     let said = rw c.fresh-opened.ensures at c.in_ok-unfit.ensures in
     let fits = all_yes (limits o) (fit_unfit (fresh o) _ _ (sym said)).numbers in
     let need : c.count_need.result ≡ count_need o = c.count_need.ensures ∙ simp fits in
-    rw (c.fresh-opened.ensures, c.clear.ensures, c.clear-2.ensures, c.stack_need.ensures, need)
-    (opens_done o w (sym (said ∙ unfit_fresh o w)))
+    let stacks : c.clear.new.table ≡ zeroed (stack_need o) w.stacks =
+    c.clear.ensures ∙ ap (λ (n : ℕ). zeroed n w.stacks) (omega arith) in
+    let counts : c.clear-2.new.table ≡ zeroed (count_need o) w.counts =
+    c.clear-2.ensures ∙ ap (λ (n : ℕ). zeroed n w.counts) (omega arith) in
+    rw (c.fresh-opened.ensures, stacks, counts) (opens_done o w (sym (said ∙ unfit_fresh o w)))
